@@ -1,0 +1,12 @@
+pub mod Tables
+pub mod Backs
+pub mod Rooms
+pub mod Homes
+pub mod Improving
+pub mod Indexes
+pub mod Moves
+pub mod Steps
+pub mod Scans
+pub mod Turns
+pub mod Marking
+pub mod Begins
