@@ -1,0 +1,5 @@
+pub mod Held
+pub mod Refusal
+pub mod State
+pub mod Answers
+pub mod Orders
