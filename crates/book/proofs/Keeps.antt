@@ -5,16 +5,18 @@ use mathlib.Core.List.{List, [], _∷_, _++_}
 use mathlib.Core.Logic.{_⊎_, inl, inr, ⊎-elim}
 use Prim.Native.Nat.{ℕ, _+_, _≤_, _<_}
 use native.Mathlib.Omega.{arith}
-use lib.Dec.{eqb}
+use lib.Dec.{eqb, ltb}
 use lib.ListN.{length, getD, set}
 use Rattle.std.proofs.shelf.Lists.{getD-append-left, getD-push, nil-from-length}
-use Rattle.std.proofs.shelf.Tests.{and-parts, and-from, not-true, not-from-false, both-ways, cases-lt, eqb-true, eq-eqb}
+use Rattle.std.proofs.shelf.Tests.{and-parts, and-from, not-true, not-from-false, both-ways, cases-lt, eqb-true, eq-eqb, ltb-true, lt-ltb}
 use Rattle.std.specs.Of.Vec.{vec-items, vec-len, vec-cap}
 use Rattle.std.specs.declared.vec.Vec.{Vec}
 use Rattle.std.specs.declared.alloc.Global.{Global}
 use Rattle.std.specs.declared.option.Option.{Option}
 use Rattle.std.specs.declared.option.Option.the-variants.{Some, None}
 use Rattle.routing.specs.declared.Trunk.{Trunk}
+use Rattle.routing.specs.declared.Verdict.{Verdict}
+use Rattle.routing.specs.declared.Verdict.the-variants.{Working, Settled, Looped}
 use Rattle.routing.specs.Lists.{Once, has}
 use Rattle.routing.specs.Rules.{Entry, is-loop, trunk, no-trunk, unreached}
 use Rattle.running.specs.declared.network.Index.{Index}
@@ -23,25 +25,22 @@ use Rattle.running.specs.declared.Work.{Work}
 use Rattle.running.specs.Network.{Ends, Chained-from, Wired}
 use denote.Ref.{RefT, now}
 use Rattle.running.specs.Table.{due, seen, seen-all, dues, is-due}
-use Rattle.running.specs.Work.{Arrivals, Sound-over, Marked}
+use Rattle.running.specs.Work.{Arrivals, Sound-over, Marked, names-inside}
 use Rattle.book.specs.declared.Phase.{Phase}
 use Rattle.book.specs.declared.Phase.the-variants.{Idle, Running, Standing}
 use Rattle.book.specs.declared.Book.{Book}
-use Rattle.book.specs.Held.{has-run, once, same, in-run, Roomy, Spare, Empty, Laid, Seated, Indexed, Firsts, Nexts, Rests, Tells}
+use Rattle.book.specs.Held.{has-run, once, same, in-run, Roomy, Spare, Laid, Seated, Indexed, Firsts, Nexts, Rests, Tells, Calm, Names}
 
 -- all that a book holds
 abbrev pub Whole : Phase → ℕ → Vec Trunk Global → Index → Work → Vec ℕ Global → Type 0
 Whole p n ts ix w list =
     Roomy ts ix w
-    × (Spare w list × (Laid n ts × (Seated p n w × (Indexed p n ts ix × (Firsts p n ts ix × (Nexts p ts ix × (Rests (vec-len ts) w × (Tells n w × Unit {0}))))))))
-
-pub whole-of : (b : Book) → Whole (b .phase) (b .n) (b .trunks) (b .index) (b .work) (b .list)
-whole-of b = (b .roomy, (b .spare, (b .laid, (b .seated, (b .indexed, (b .firsts, (b .nexts, (b .rests, (b .tells, tt)))))))))
+    × (Spare w list × (Laid n ts × (Seated p n w × (Indexed p n ts ix × (Firsts p n ts ix × (Nexts p ts ix × (Rests (vec-len ts) w × (Tells n w × (Names n ts w × Unit {0})))))))))
 
 -- with no run nothing is asked of the index and the entries
 pub whole-idle : (n : ℕ) (ts : Vec Trunk Global) (ix : Index) (w : Work) (list : Vec ℕ Global)
-    → Roomy ts ix w → Spare w list → Laid n ts → Rests (vec-len ts) w → Tells n w → Whole Idle n ts ix w list
-whole-idle n ts ix w list roomy spare laid rests tells = (
+    → Roomy ts ix w → Spare w list → Laid n ts → Rests (vec-len ts) w → Tells n w → Names n ts w → Whole Idle n ts ix w list
+whole-idle n ts ix w list roomy spare laid rests tells names = (
   roomy,
   (
     spare,
@@ -49,7 +48,7 @@ whole-idle n ts ix w list roomy spare laid rests tells = (
       laid,
       (
         (λ e. absurd (both-ways false refl e)),
-        ((λ e. absurd (both-ways false refl e)), ((λ v l. absurd (omega arith)), ((λ t l. absurd (omega arith)), (rests, (tells, tt))))),
+        ((λ e. absurd (both-ways false refl e)), ((λ v l. absurd (omega arith)), ((λ t l. absurd (omega arith)), (rests, (tells, (names, tt)))))),
       ),
     ),
   ),
@@ -94,6 +93,26 @@ laid-push n ts ts′ new items long from to few l =
 
 pub rests-push : (m k : ℕ) (w : Work) → k ≡ m + 1 → Rests m w → Rests k w
 rests-push m k w e r = (λ x t h. omega (arith, r .0 x t h), r .1, r .2, r .3)
+
+-- the loop that a verdict names, where there are more trunks, and where there is none
+names-more : (n m k : ℕ) (e : Verdict) → k ≡ m + 1 → names-inside n m e ≡ true → names-inside n k e ≡ true
+names-more n m k Working up is = refl
+names-more n m k Settled up is = refl
+names-more n m k (Looped v t) up is =
+    let p = and-parts (ltb v n) (ltb t m) is in
+    let low : t < m = ltb-true t m (p .1) in
+    and-from (ltb v n) (ltb t k) (p .0) (lt-ltb t k (omega arith))
+
+pub names-push : (n : ℕ) (ts ts′ : Vec Trunk Global) (w : Work) → vec-len ts′ ≡ vec-len ts + 1 → Names n ts w → Names n ts′ w
+names-push n ts ts′ w up is = names-more n (vec-len ts) (vec-len ts′) (w .verdict) up is
+
+names-none : (n m : ℕ) (e : Verdict) → is-loop e ≡ false → names-inside n m e ≡ true
+names-none n m Working free = refl
+names-none n m Settled free = refl
+names-none n m (Looped v t) free = absurd (both-ways true free refl)
+
+pub names-calm : (n : ℕ) (ts : Vec Trunk Global) (w : Work) → Calm w → Names n ts w
+names-calm n ts w free = names-none n (vec-len ts) (w .verdict) free
 
 -- tests and the facts that they stand for
 once-true : (xs : List ℕ) → once xs ≡ true → Once xs

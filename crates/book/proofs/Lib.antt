@@ -1,3 +1,4 @@
 pub mod Keeps
 pub mod Calls
 pub mod RunCalls
+pub mod ReadCalls

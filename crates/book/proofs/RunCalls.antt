@@ -2,14 +2,17 @@
 use mathlib.Core.Path.{_≡_, refl, sym, ap, _∙_, subst}
 use mathlib.Core.Bool.{Bool, true, false}
 use mathlib.Core.List.{List, []}
-use Prim.Native.Nat.{ℕ, _+_, _≤_}
+use Prim.Native.Nat.{ℕ, _+_, _≤_, _<_}
+use native.Mathlib.Omega.{arith}
 use lib.ListN.{length}
 use Rattle.std.proofs.shelf.Tests.{both-ways, not-false, ltb-false}
-use Rattle.std.specs.Of.Vec.{vec-items}
+use Rattle.std.proofs.shelf.Lists.{length-map}
+use Rattle.std.specs.Of.Vec.{vec-items, vec-len}
 use Rattle.std.specs.declared.option.Option.the-variants.{Some, None}
 use Rattle.routing.specs.declared.Trunk.{Trunk}
 use Rattle.routing.specs.declared.Verdict.{Verdict}
 use Rattle.routing.specs.Kind.{Kind}
+use Rattle.routing.specs.Lists.{has}
 use Rattle.routing.specs.Rules.{Run, begun, passed, is-loop}
 use Rattle.routing.specs.Orders.{Meaning}
 use Rattle.routing.specs.History.{State, step, began, pass, finished, abandoned, idle, running, standing}
@@ -19,11 +22,14 @@ use Rattle.routing.specs.Does.{Serves, applied}
 use Rattle.routing.proofs.Does.{serves-refused, serves-accepted}
 use Rattle.routing.proofs.Refused.{none-of}
 use Rattle.running.specs.declared.Work.{Work}
-use Rattle.running.specs.Work.{run-of}
+use Rattle.running.specs.Table.{seen, seen-all}
+use Rattle.running.specs.Work.{run-of, names-inside}
+use Rattle.running.proofs.Begins.{reached-below}
+use Rattle.running.proofs.Naming.{passed-inside}
 use Rattle.book.specs.declared.Phase.{Phase}
 use Rattle.book.specs.declared.Phase.the-variants.{Idle, Running, Standing}
 use Rattle.book.specs.declared.Book.{Book}
-use Rattle.book.specs.Held.{has-run}
+use Rattle.book.specs.Held.{has-run, Names}
 use Rattle.book.specs.Orders.{By-order}
 use Rattle.book.specs.State.{phase-of, state-of, stood}
 
@@ -70,6 +76,19 @@ module _ {L : Type 0} (K : Kind L) (b : Book) (ls : List L) where
 
   pub no-loop-yet : (k : ℕ) → None ≡ refusal K s (do-pass k) → is-loop (b .work .verdict) ≡ false
   no-loop-yet k none = working-no-loop (b .phase) (run-of (b .work) ls) (open-for-pass k none .1)
+
+  -- a pass over trunks that are the book's names no loop but of the book
+  pub names-passed : has-run (b .phase) ≡ true → (ts : List Trunk) → ts ≡ vec-items (b .trunks) → (a : List ℕ) (w : Work) (ls′ : List L) → Meaning K (b .n) ts (run-of (b .work) ls) a
+      → run-of w ls′ ≡ passed K (b .n) ts a (run-of (b .work) ls) → Names (b .n) (b .trunks) w
+  names-passed runs ts same a w ls′ means does =
+      let own = b .trunks .ok .0 in
+      let long : length ts ≡ vec-len (b .trunks) = ap length same ∙ sym own in
+      let low : (v : ℕ) → has v a ≡ true → v < b .n =
+      λ v h. let l = reached-below (seen-all (b .work .table)) v (means .are-reached v h) in
+      omega (arith, length-map (vec-items (b .work .table .entries)) seen, b .work .table .entries .ok .0, b .seated runs .2) in
+      subst (λ (m : ℕ). names-inside (b .n) m (w .verdict) ≡ true) long
+      (ap (λ (r : Run L). names-inside (b .n) (length ts) (r .verdict)) does
+      ∙ passed-inside K (b .n) ts a (run-of (b .work) ls) low (subst (λ (m : ℕ). names-inside (b .n) m (b .work .verdict) ≡ true) (sym long) (b .names)))
 
   open-for-finish : (k : ℕ) → None ≡ refusal K s (finish k) → is-running (s .phase) ≡ true
   open-for-finish k none = let q = none-of (refusals K s (finish k)) (sym none) in not-false (is-running (s .phase)) (q .1 .1 .1 .0)

@@ -50,3 +50,8 @@ misfit Fit = None
 abbrev pub reading-of : {A : Type 0} → Result A Refusal → Reading A
 reading-of (Ok a) = told a
 reading-of (Err k) = denied (number-of k)
+
+-- a result whose value is not looked at
+abbrev pub unit-of : {A : Type 0} → Result A Refusal → Result (Unit {0}) Refusal
+unit-of (Ok a) = Ok tt
+unit-of (Err k) = Err k

@@ -17,7 +17,7 @@ use Rattle.running.specs.declared.network.Index.{Index}
 use Rattle.running.specs.declared.Work.{Work}
 use Rattle.running.specs.Network.{front, rest}
 use Rattle.running.specs.Table.{seen-all, is-due}
-use Rattle.running.specs.Work.{Arrivals}
+use Rattle.running.specs.Work.{Arrivals, names-inside}
 use Rattle.book.specs.declared.Phase.{Phase}
 use Rattle.book.specs.declared.Phase.the-variants.{Idle, Running, Standing}
 
@@ -90,3 +90,11 @@ Rests m w =
 -- while the run is not over as a loop, the marks tell who waits
 abbrev pub Tells : ℕ → Work → Type 0
 Tells n w = is-loop (w .verdict) ≡ false → (x : ℕ) → x < n → is-due (w .table) x ≡ has x (vec-items (w .waiting))
+
+-- no loop was found
+abbrev pub Calm : Work → Type 0
+Calm w = is-loop (w .verdict) ≡ false
+
+-- a loop that was found is one of the book's
+abbrev pub Names : ℕ → Vec Trunk Global → Work → Type 0
+Names n ts w = names-inside n (vec-len ts) (w .verdict) ≡ true

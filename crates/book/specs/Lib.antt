@@ -3,3 +3,4 @@ pub mod Refusal
 pub mod State
 pub mod Answers
 pub mod Orders
+pub mod Written

@@ -2,7 +2,7 @@
 // What the steps of a run ask is kept as the book's own invariant, so no call asks anything.
 ghost use mathlib.Core.Path.{_≡_};
 ghost use Rattle.std.specs.Of.Vec.{vec-len};
-ghost use Rattle.book.specs.Held.{Empty, Firsts, Indexed, Laid, Nexts, Rests, Roomy, Seated, Spare, Tells};
+ghost use Rattle.book.specs.Held.{Calm, Empty, Firsts, Indexed, Laid, Names, Nexts, Rests, Roomy, Seated, Spare, Tells};
 pub mod checks;
 pub mod making;
 pub mod outcome;
@@ -33,6 +33,7 @@ pub struct Space {
     ghost roomy: { Roomy trunks index work },
     ghost spare: { Spare work list },
     ghost empty: { Empty trunks work },
+    ghost calm: { Calm work },
 }
 
 // Trunks, and the run over them. The lengths are the caller's.
@@ -54,6 +55,7 @@ pub struct Book {
     ghost nexts: { Nexts phase trunks index },
     ghost rests: { Rests (vec-len trunks) work },
     ghost tells: { Tells n work },
+    ghost names: { Names n trunks work },
 }
 
 // Whoever begins a run owes this back: only an accepted finish or abandon takes it.

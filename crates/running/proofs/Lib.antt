@@ -10,3 +10,5 @@ pub mod Scans
 pub mod Turns
 pub mod Marking
 pub mod Begins
+pub mod Trailing
+pub mod Naming

@@ -1,3 +1,4 @@
 pub mod Table
 pub mod Network
 pub mod Work
+pub mod Trails

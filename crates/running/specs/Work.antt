@@ -1,13 +1,16 @@
 -- The run as the code holds it, and the run that it stands for.
 use mathlib.Core.Path.{_≡_}
 use mathlib.Core.List.{List}
-use mathlib.Core.Bool.{Bool, true, false, _||_}
+use mathlib.Core.Bool.{Bool, true, false, _&&_, _||_}
 use Prim.Native.Nat.{ℕ, _≤_, _<_}
+use lib.Dec.{ltb}
 use lib.ListN.{length, getD}
 use Rattle.std.specs.Of.Vec.{vec-items, vec-len, vec-cap}
 use Rattle.std.specs.declared.vec.Vec.{Vec}
 use Rattle.std.specs.declared.alloc.Global.{Global}
 use Rattle.std.specs.declared.option.Option.the-variants.{Some}
+use Rattle.routing.specs.declared.Verdict.{Verdict}
+use Rattle.routing.specs.declared.Verdict.the-variants.{Working, Settled, Looped}
 use Rattle.routing.specs.Lists.{Once, has}
 use Rattle.routing.specs.Rules.{Run, Entry, unreached}
 use Rattle.running.specs.declared.network.Network.{Network}
@@ -58,3 +61,9 @@ Marked n w later = Marks n (dues (w .table)) (vec-items (w .waiting)) later
 -- the room taken for entries and for the waiting list is as before
 abbrev pub Same-room : Work → Work → Type 0
 Same-room w w′ = (vec-cap (w′ .table .entries) ≡ vec-cap (w .table .entries)) × (vec-cap (w′ .waiting) ≡ vec-cap (w .waiting))
+
+-- the loop that a verdict names was found at one of n exchanges, by one of m trunks
+abbrev pub names-inside : ℕ → ℕ → Verdict → Bool
+names-inside n m Working = true
+names-inside n m Settled = true
+names-inside n m (Looped v t) = ltb v n && ltb t m

@@ -1,15 +1,16 @@
-use mathlib.Core.Path.{_≡_, refl, sym, subst}
+use mathlib.Core.Path.{_≡_, refl, sym, ap, subst}
 use mathlib.Core.Bool.{true}
 use native.Mathlib.Omega.{arith}
 use Rattle.std.proofs.shelf.Results.{err-from-errBy}
 use Rattle.std.proofs.shelf.Tests.{both-ways}
 use Rattle.std.specs.Of.Vec.{vec-items, vec-len}
+use Rattle.routing.specs.Rules.{Run, is-loop}
 use Rattle.routing.specs.Calls.{begin}
 use Rattle.routing.specs.History.{step, began}
 use Rattle.running.specs.Network.{Chained-from}
 use Rattle.book.specs.Refusal.{number-of}
 use Rattle.book.proofs.Calls.{refused-so, may-do}
-use Rattle.book.proofs.Keeps.{firsts-from, nexts-from, rests-from, tells-from}
+use Rattle.book.proofs.Keeps.{firsts-from, nexts-from, rests-from, tells-from, names-calm}
 use Rattle.book.proofs.RunCalls.{begun-so}
 use Rattle.book.proofs.Book.begin.Needs as need
 
@@ -44,7 +45,7 @@ ghost-self g c =
               (λ _. (c .build .ensures .len .0, omega (arith, c .build .ensures .len .1, c .deref .ensures .len))),
               (
                 firsts-from (b .n) home (b .trunks) ix chained,
-                (nexts-from (b .n) home (b .trunks) ix chained, (rests-from (b .n) (vec-len (b .trunks)) w sound, (tells-from (b .n) w (λ _. c .begin .ensures .marked), tt))),
+                (nexts-from (b .n) home (b .trunks) ix chained, (rests-from (b .n) (vec-len (b .trunks)) w sound, (tells-from (b .n) w (λ _. c .begin .ensures .marked), (names-calm (b .n) (b .trunks) w (ap (λ (r : Run (g .L .Denot)). is-loop (r .verdict)) (c .begin .ensures .does)), tt)))),
               ),
             ),
           ),

@@ -8,7 +8,7 @@ use Rattle.routing.specs.History.{edit, laid}
 use mathlib.Core.Bool.{true}
 use Rattle.book.specs.Refusal.{number-of}
 use Rattle.book.proofs.Calls.{refused-so, may-do, laid-so}
-use Rattle.book.proofs.Keeps.{whole-idle, laid-push, rests-push}
+use Rattle.book.proofs.Keeps.{whole-idle, laid-push, rests-push, names-push}
 use Rattle.book.proofs.Book.lay.Needs as need
 
 pub returns-in-Break-may-lay : need.returns-in-Break-may-lay
@@ -26,7 +26,7 @@ ghost-self g c =
     let ts = c .push-reserved .last .self in
     let ok = may-do (g .L·Length .kind) b (c .args .lengths .now) (lay (c .args .from) (c .args .to) (c .args .length)) (edit (laid (c .args .from) (c .args .to) (c .args .length))) (c .in-Continue-may-lay .ensures tt) refl in
     whole-idle (b .n) ts (b .index) (b .work) (b .list) (omega (arith, e .capacity, b .roomy .0), b .roomy .1, b .roomy .2, b .roomy .3) (b .spare)
-    (laid-push (b .n) (b .trunks) ts _ (e .items) (e .len) (ok .2 .0) (ok .2 .1) (omega (arith, ok .2 .4, b .trunks .ok .0)) (b .laid)) (rests-push (vec-len (b .trunks)) (vec-len ts) (b .work) (e .len) (b .rests)) (b .tells)
+    (laid-push (b .n) (b .trunks) ts _ (e .items) (e .len) (ok .2 .0) (ok .2 .1) (omega (arith, ok .2 .4, b .trunks .ok .0)) (b .laid)) (rests-push (vec-len (b .trunks)) (vec-len ts) (b .work) (e .len) (b .rests)) (b .tells) (names-push (b .n) (b .trunks) ts (b .work) (e .len) (b .names))
 
 pub returns : need.returns
 returns g c = record {

@@ -12,10 +12,10 @@ use Rattle.routing.specs.Rules.{passed}
 use Rattle.routing.specs.Calls.{do-pass}
 use Rattle.running.specs.Work.{Sound-over, run-of}
 use Rattle.book.specs.Answers.{shows}
-use Rattle.book.specs.Held.{has-run}
+use Rattle.book.specs.Held.{has-run, Names}
 use Rattle.book.specs.Refusal.{number-of}
 use Rattle.book.proofs.Keeps.{wired-of, sound-of, marked-of, rests-from, tells-from}
-use Rattle.book.proofs.RunCalls.{open-has-run, open-for-pass, no-loop-yet, room-for-pass, pass-refused, passed-so}
+use Rattle.book.proofs.RunCalls.{open-has-run, open-for-pass, no-loop-yet, room-for-pass, names-passed, pass-refused, passed-so}
 use Rattle.book.proofs.Book.pass.Needs as need
 
 pub returns-in-Break-may-pass : need.returns-in-Break-may-pass
@@ -51,7 +51,9 @@ ghost-self g c =
     let none = c .in-Continue-may-pass .ensures tt in
     let runs : has-run (b .phase) ≡ true = open-has-run (b .phase) (run-of (b .work) (c .args .lengths .now)) (open-for-pass (g .L·Length .kind) b (c .args .lengths .now) (c .args .ticket .now .number) none .0) in
     let room = c .pass .ensures .room in
-    let sound : Sound-over (b .n) (vec-len (b .trunks)) w = subst (λ (m : ℕ). Sound-over (b .n) m w) (c .deref .ensures .len) (c .pass .ensures .sound) in (
+    let sound : Sound-over (b .n) (vec-len (b .trunks)) w = subst (λ (m : ℕ). Sound-over (b .n) m w) (c .deref .ensures .len) (c .pass .ensures .sound) in
+    let names : Names (b .n) (b .trunks) w =
+    names-passed (g .L·Length .kind) b (c .args .lengths .now) runs (c .deref .result .now) (c .deref .ensures .value) (vec-items (c .pass .last .list)) w (c .pass .last .lengths) (c .pass .ensures .rule .1) (c .pass .ensures .does) in (
       (b .roomy .0, b .roomy .1, b .roomy .2, omega (arith, room .1 .0, b .roomy .3)),
       (
         (omega (arith, room .1 .1, b .spare .0), omega (arith, room .0, b .spare .1)),
@@ -59,7 +61,7 @@ ghost-self g c =
           b .laid,
           (
             (λ e. (b .seated runs .0, b .seated runs .1, sound .entries)),
-            (b .indexed, (b .firsts, (b .nexts, (rests-from (b .n) (vec-len (b .trunks)) w sound, (tells-from (b .n) w (c .pass .ensures .marked), tt))))),
+            (b .indexed, (b .firsts, (b .nexts, (rests-from (b .n) (vec-len (b .trunks)) w sound, (tells-from (b .n) w (c .pass .ensures .marked), (names, tt)))))),
           ),
         ),
       ),
