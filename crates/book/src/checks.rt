@@ -74,7 +74,13 @@ impl Book {
         }
         Ok(())
     }
-    pub(crate) fn may_reprice<L: Length>(&self, lengths: &[L], t: u16, length: L) -> Result<(), Refusal>
+
+    pub(crate) fn may_reprice<L: Length>(
+        &self,
+        lengths: &[L],
+        t: u16,
+        length: L,
+    ) -> Result<(), Refusal>
         ensures { λ r. ⌜ refusal-in r ≡ refusal (L·Length .kind) (state-of (now (self .entry)) (now (lengths .entry))) (reprice t length) ⌝ }
     {
         self.between_runs(lengths)?;
@@ -108,7 +114,11 @@ impl Book {
     }
 
     // What every call that is shown a ticket asks.
-    pub(crate) fn may_abandon<L: Length>(&self, lengths: &[L], ticket: &Ticket) -> Result<(), Refusal>
+    pub(crate) fn may_abandon<L: Length>(
+        &self,
+        lengths: &[L],
+        ticket: &Ticket,
+    ) -> Result<(), Refusal>
         ensures { λ r. ⌜ refusal-in r ≡ refusal (L·Length .kind) (state-of (now (self .entry)) (now (lengths .entry))) (abandon (now (ticket .entry) .number)) ⌝ }
     {
         self.unfit(lengths)?;
@@ -133,7 +143,11 @@ impl Book {
     }
 
     // How the run that may be finished ended.
-    pub(crate) fn may_finish<L: Length>(&self, lengths: &[L], ticket: &Ticket) -> Result<Ending, Refusal>
+    pub(crate) fn may_finish<L: Length>(
+        &self,
+        lengths: &[L],
+        ticket: &Ticket,
+    ) -> Result<Ending, Refusal>
         ensures refuses { λ r. ⌜ refusal-in r ≡ refusal (L·Length .kind) (state-of (now (self .entry)) (now (lengths .entry))) (finish (now (ticket .entry) .number)) ⌝ }
         ensures shows { λ r. ⌜ made r (λ e. shows-end e ≡ shown (said (now (self .entry) .work .verdict)) (now (self .entry) .work .passes) (now (self .entry) .work .scans)) ⌝ }
     {

@@ -3,6 +3,7 @@
 ghost use mathlib.Core.Path.{_≡_};
 ghost use Rattle.std.specs.Of.Vec.{vec-len};
 ghost use Rattle.book.specs.Held.{Calm, Empty, Firsts, Indexed, Laid, Names, Nexts, Rests, Roomy, Seated, Spare, Tells};
+
 pub mod checks;
 pub mod making;
 pub mod outcome;

@@ -22,6 +22,7 @@ use std::alloc::Global;
 
 // The most exchanges and trunks that a book may have.
 pub const MOST_EXCHANGES: usize = 256;
+
 pub const MOST_TRUNKS: usize = 4096;
 
 // Whether `n` exchanges and this length list can make a book.

@@ -85,7 +85,12 @@ impl Book {
     }
 
     // Writes the trunks of the cheapest walk from home to `x`, and answers how many.
-    pub fn route<L: Length>(&self, lengths: &[L], x: u16, into: &mut [u16]) -> Result<usize, Refusal>
+    pub fn route<L: Length>(
+        &self,
+        lengths: &[L],
+        x: u16,
+        into: &mut [u16],
+    ) -> Result<usize, Refusal>
         ensures { λ r. ⌜ Writes-so (L·Length .kind) (state-of (now (self .entry)) (now (lengths .entry))) (route (L·Length .kind) (state-of (now (self .entry)) (now (lengths .entry))) x (length (now (into .entry)))) (now (into .entry)) (now (into .exit)) r ⌝ }
     {
         self.may_read(lengths, x)?;
@@ -107,8 +112,7 @@ impl Book {
     {
         let (v, t) = self.may_read_loop(lengths)?;
         let net = self.network();
-        let count = self
-            .work
+        let count = self.work
             .table
             .trail_length(net, v, Some(net.trunks[t as usize].to));
         if into.len() <= count {

@@ -37,7 +37,12 @@ impl Book {
     }
 
     // Gives a laid trunk, open or barred, a new length.
-    pub fn reprice<L: Length>(&mut self, lengths: &mut [L], t: u16, length: L) -> Result<(), Refusal>
+    pub fn reprice<L: Length>(
+        &mut self,
+        lengths: &mut [L],
+        t: u16,
+        length: L,
+    ) -> Result<(), Refusal>
         ensures serves { λ r. ⌜ Serves (L·Length .kind) (Meaning (L·Length .kind) (now (self .entry) .n)) (state-of (now (self .entry)) (now (lengths .entry))) (reprice t length) (answer-by (λ _. done) r) (state-of (now (self .exit)) (now (lengths .exit))) ⌝ }
         ensures refused { λ r. ⌜ (isOk r ≡ false → now (self .exit) ≡ now (self .entry)) ⌝ }
     {

@@ -87,7 +87,12 @@ impl Work {
     }
 
     // Each exchange of the answered list has its turn, until a loop is found.
-    pub(crate) fn take_turns<L: Length>(&mut self, net: Network<'_>, lengths: &mut [L], answered: &[u16])
+    pub(crate) fn take_turns<L: Length>(
+        &mut self,
+        net: Network<'_>,
+        lengths: &mut [L],
+        answered: &[u16],
+    )
         requires room { ⌜ Roomy net (now lengths) ⌝ }
         requires wired { ⌜ Wired net ⌝ }
         requires sound { ⌜ Sound net (now self) ⌝ }

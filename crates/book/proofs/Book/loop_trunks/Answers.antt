@@ -64,7 +64,7 @@ returns g c =
     let e = c .network-net .ensures in
     let may = c .in-Continue-v .ensures tt in
     let trails = net-trail K b (c .args .lengths .now) (c .network-net .result) (e .0) (e .1 .0) (e .1 .1 .0) (e .1 .1 .1) (Some (trunk (trunks-of (c .network-net .result)) (c .in-Continue-v .t) .to)) (c .in-Continue-v .v)
-        ∙ ap (λ (us : List Trunk). trail (b .n) (vec-items (b .trunks)) (seen-all (b .work .table)) (Some (trunk us (c .in-Continue-v .t) .to)) (c .in-Continue-v .v)) (e .1 .0) in
+    ∙ ap (λ (us : List Trunk). trail (b .n) (vec-items (b .trunks)) (seen-all (b .work .table)) (Some (trunk us (c .in-Continue-v .t) .to)) (c .in-Continue-v .v)) (e .1 .0) in
     loop-written K b (c .args .lengths .now) (c .args .into .now) (may .refuses) (c .in-Continue-v .v) (c .in-Continue-v .t) (may .names) (c .trail-length-count .result)
     (c .trail-length-count .ensures ∙ ap length trails) (c .write-trail .last .into) (c .if-into-count .left)
     (c .write-trail .ensures (Some (trunk (trunks-of (c .network-net .result)) (c .in-Continue-v .t) .to)) (c .trail-length-count .ensures) ∙ ap (λ us. us ++ drop (c .trail-length-count .result) (c .args .into .now)) trails)

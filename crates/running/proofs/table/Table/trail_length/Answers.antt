@@ -38,7 +38,7 @@ loop-count-again c =
     ap (λ z. z .arriving) (read-seen (c .args .self .now) (c .loop-count .at) (c .index .result .now) inside (c .index .ensures)) ∙ c .in-Some .is in
     let from = trunk (trunks-of (c .args .net)) (c .in-Some .t) .from in
     let one-more = ap length (trail-on (trunks-of (c .args .net)) (seen-all (c .args .self .now)) (c .args .stop) (c .args .net .n) (c .loop-count .count) (c .loop-count .at) (c .in-Some .t) (c .loop-count-test .taken) (sym (c .if-stops-at .ensures tt)) goes)
-        ∙ length-push (trail (c .args .net .n - (c .loop-count .count + 1)) (trunks-of (c .args .net)) (seen-all (c .args .self .now)) (c .args .stop) from) (c .in-Some .t) in (
+    ∙ length-push (trail (c .args .net .n - (c .loop-count .count + 1)) (trunks-of (c .args .net)) (seen-all (c .args .self .now)) (c .args .stop) from) (c .in-Some .t) in (
       c .pre .wired .ends .from (c .in-Some .t) (c .pre .arrivals (c .loop-count .at) (c .in-Some .t) goes),
       omega (arith, c .loop-count .inv .1),
     )
