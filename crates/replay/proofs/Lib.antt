@@ -1,1 +1,4 @@
 pub mod Makings
+pub mod Fillings
+pub mod Lists
+pub mod Promised
