@@ -1,13 +1,15 @@
 -- What the calls of a run promise, from the checks that they made and the steps that they took.
 use mathlib.Core.Path.{_≡_, refl, sym, ap, _∙_, subst}
-use mathlib.Core.Bool.{Bool, true, false}
+use mathlib.Core.Bool.{Bool, true, false, not, _||_}
+use lib.Dec.{eqb, ltb}
 use mathlib.Core.List.{List, []}
 use Prim.Native.Nat.{ℕ, _+_, _≤_, _<_}
 use native.Mathlib.Omega.{arith}
 use lib.ListN.{length}
-use Rattle.std.proofs.shelf.Tests.{both-ways, not-false, ltb-false}
+use Rattle.std.proofs.shelf.Tests.{both-ways, not-false, ltb-false, not-from-true, or-from, ne-eqb, eq-eqb, le-ltb}
 use Rattle.std.proofs.shelf.Lists.{length-map}
 use Rattle.std.specs.Of.Vec.{vec-items, vec-len}
+use Rattle.std.specs.declared.option.Option.{Option}
 use Rattle.std.specs.declared.option.Option.the-variants.{Some, None}
 use Rattle.routing.specs.declared.Trunk.{Trunk}
 use Rattle.routing.specs.declared.Verdict.{Verdict}
@@ -20,7 +22,7 @@ use Rattle.routing.specs.Refusals.{is-running, works, is-working}
 use Rattle.routing.specs.Calls.{Call, Answer, begin, do-pass, finish, abandon, refused, done, shown, said, refusals, refusal, Answers}
 use Rattle.routing.specs.Does.{Serves, applied}
 use Rattle.routing.proofs.Does.{serves-refused, serves-accepted}
-use Rattle.routing.proofs.Refused.{none-of}
+use Rattle.routing.proofs.Refused.{none-of, of-none}
 use Rattle.running.specs.declared.Work.{Work}
 use Rattle.running.specs.Table.{seen, seen-all}
 use Rattle.running.specs.Work.{run-of, names-inside}
@@ -31,7 +33,8 @@ use Rattle.book.specs.declared.Phase.the-variants.{Idle, Running, Standing}
 use Rattle.book.specs.declared.Book.{Book}
 use Rattle.book.specs.Held.{has-run, Names}
 use Rattle.book.specs.Orders.{By-order}
-use Rattle.book.specs.State.{phase-of, state-of, stood}
+use Rattle.book.specs.declared.Ticket.{Ticket}
+use Rattle.book.specs.State.{Owed, phase-of, runs, state-of, stood}
 
 module _ {L : Type 0} where
   -- the home of an open run
@@ -39,6 +42,11 @@ module _ {L : Type 0} where
   home-of Idle r e = absurd (both-ways false refl e)
   home-of (Running home) r e = (home, refl)
   home-of (Standing home) r e = absurd (both-ways false refl e)
+
+  runs-is : (p : Phase) (r : Run L) → is-running (phase-of p r) ≡ runs p
+  runs-is Idle r = refl
+  runs-is (Running home) r = refl
+  runs-is (Standing home) r = refl
 
   pub open-has-run : (p : Phase) (r : Run L) → is-running (phase-of p r) ≡ true → has-run p ≡ true
   open-has-run p r e = ap has-run (home-of p r e .1)
@@ -135,3 +143,16 @@ module _ {L : Type 0} (K : Kind L) (b : Book) (ls : List L) where
 
   pub abandoned-so : (k : ℕ) → None ≡ refusal K s (abandon k) → Serves K (Meaning K (b .n)) s (abandon k) done (with-run Idle (b .work) ls)
   abandoned-so k none = serves-accepted K (Meaning K (b .n)) s (λ ts r a m. m) (abandon k) done (with-run Idle (b .work) ls) (step abandoned) none refl refl refl
+
+  -- a ticket that is owed is not refused by an abandon
+  pub owed-taken : (t : Ticket) → Owed t b (length ls) → (k : ℕ) → Some k ≡ refusal K s (abandon (t .number)) → ⊥
+  owed-taken t o k why =
+      let own = b .trunks .ok .0 in
+      let sized : (eqb (b .n) 0 || ltb 256 (b .n)) ≡ false = or-from (eqb (b .n) 0) (ltb 256 (b .n)) (ne-eqb (b .n) 0 (λ e. omega (arith, o .some))) (le-ltb 256 (b .n) (o .few)) in
+      let room : ltb (length ls) (b .n + length (vec-items (b .trunks))) ≡ false = le-ltb (length ls) (b .n + length (vec-items (b .trunks))) (omega (arith, o .room)) in
+      let named : not (eqb (t .number) (b .number)) ≡ false = not-from-true (eqb (t .number) (b .number)) (eq-eqb (t .number) (b .number) (o .bears)) in
+      let opened : not (is-running (s .phase)) ≡ false = not-from-true (is-running (s .phase)) (runs-is (b .phase) (run-of (b .work) ls) ∙ o .open-run) in
+      let none : refusal K s (abandon (t .number)) ≡ None = of-none (refusals K s (abandon (t .number))) (sized, (room, (named, (opened, tt)))) in
+      let z : _≡_ {A = Option ℕ} (Some k) None = why ∙ none in
+      let y : _≡_ {A = ℕ} 0 1 = cc in
+      omega arith

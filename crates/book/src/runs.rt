@@ -1,5 +1,6 @@
 ghost use mathlib.Core.Path.{_≡_};
-ghost use mathlib.Core.Bool.{false};
+ghost use mathlib.Core.Bool.{false, true};
+ghost use lib.ListN.{length};
 ghost use Rattle.std.specs.Results.{isOk};
 ghost use Rattle.std.specs.Vec.{made, refused as given-back};
 ghost use Rattle.routing.specs.Calls.{abandon, begin, do-pass, done, finish, said, shown};
@@ -7,7 +8,7 @@ ghost use Rattle.routing.specs.Does.{Serves};
 ghost use Rattle.routing.specs.Orders.{Meaning};
 ghost use Rattle.book.specs.Answers.{answer-back, answer-by, shows, shows-end};
 ghost use Rattle.book.specs.Orders.{By-order};
-ghost use Rattle.book.specs.State.{state-of, stood};
+ghost use Rattle.book.specs.State.{Owed, state-of, stood};
 use super::Book;
 use super::Phase;
 use super::Ticket;
@@ -38,6 +39,7 @@ impl Book {
     pub fn begin<L: Length>(&mut self, lengths: &mut [L], home: u16) -> Result<Ticket, Refusal>
         ensures serves { λ r. ⌜ Serves (L·Length .kind) (Meaning (L·Length .kind) (now (self .entry) .n)) (state-of (now (self .entry)) (now (lengths .entry))) (begin home) (answer-by (λ _. done) r) (state-of (now (self .exit)) (now (lengths .exit))) ⌝ }
         ensures ticket { λ r. ⌜ made r (λ t. t .number ≡ now (self .entry) .number) ⌝ }
+        ensures owed { λ r. ⌜ made r (λ t. Owed t (now (self .exit)) (length (now (lengths .entry)))) ⌝ }
         ensures refused { λ r. ⌜ (isOk r ≡ false → now (self .exit) ≡ now (self .entry)) ⌝ }
     {
         self.may_begin(lengths, home)?;
@@ -70,6 +72,7 @@ impl Book {
         ticket: &Ticket,
     ) -> Result<Progress, Refusal>
         ensures serves { λ r. ⌜ Serves (L·Length .kind) (By-order (L·Length .kind) (O·ScanOrder .answers) (now (self .entry) .n)) (state-of (now (self .entry)) (now (lengths .entry))) (do-pass (now (ticket .entry) .number)) (answer-by shows r) (state-of (now (self .exit)) (now (lengths .exit))) ⌝ }
+        ensures owed { λ _. ⌜ ((t : Ticket) → Owed t (now (self .entry)) (length (now (lengths .entry))) → Owed t (now (self .exit)) (length (now (lengths .entry)))) ⌝ }
         ensures refused { λ r. ⌜ (isOk r ≡ false → now (self .exit) ≡ now (self .entry)) ⌝ }
     {
         self.may_pass(lengths, ticket)?;
@@ -114,6 +117,7 @@ impl Book {
     ) -> Result<(), Refused<Ticket>>
         ensures serves { λ r. ⌜ Serves (L·Length .kind) (Meaning (L·Length .kind) (now (self .entry) .n)) (state-of (now (self .entry)) (now (lengths .entry))) (abandon (ticket .number)) (answer-back (λ _. done) r) (state-of (now (self .exit)) (now (lengths .entry))) ⌝ }
         ensures ticket { λ r. ⌜ given-back r (λ e. e .back ≡ ticket) ⌝ }
+        ensures takes { λ r. ⌜ (Owed ticket (now (self .entry)) (length (now (lengths .entry))) → isOk r ≡ true) ⌝ }
         ensures refused { λ r. ⌜ (isOk r ≡ false → now (self .exit) ≡ now (self .entry)) ⌝ }
     {
         match self.may_abandon(lengths, &ticket) {

@@ -66,11 +66,7 @@ pub fn replay<L: Length, O: ScanOrder<L>>(
     ensures replays { λ r. ⌜ made r (λ m. Replays (L·Length .kind) (O·ScanOrder .answers) number n (now (lengths .entry)) (now (lengths .exit)) (now (calls .entry)) (take (length (now (calls .entry))) (now (answers .exit))) m (now (charges .exit)) (now (arrivals .exit)) (now (looped .exit))) ⌝ }
     ensures leaves { λ r. ⌜ made r (λ m. (drop (length (now (calls .entry))) (now (answers .exit)) ≡ drop (length (now (calls .entry))) (now (answers .entry))) × Leaves n (m .read) (now (charges .entry)) (now (charges .exit)) (now (arrivals .entry)) (now (arrivals .exit)) (now (looped .entry)) (now (looped .exit))) ⌝ }
 {
-    if answers.len() < calls.len()
-        || charges.len() < n
-        || arrivals.len() < n
-        || looped.len() < n
-    {
+    if answers.len() < calls.len() || charges.len() < n || arrivals.len() < n || looped.len() < n {
         return Err(Refused {
             refusal: Refusal::NoRoom,
             back: space,

@@ -20,6 +20,7 @@ returns-in-Break-may-begin g c =
     rw (p .1, p .2) (record {
       serves = refused-so (g .L·Length .kind) (c .args .self .now) (c .args .lengths .now) (begin (c .args .home)) (number-of (c .in-Break-may-begin .field-0 .0)) (c .in-Break-may-begin .ensures tt);
       ticket = tt;
+      owed = tt;
       refused = λ _. refl;
     })
 
@@ -54,8 +55,12 @@ ghost-self g c =
     )
 
 pub returns : need.returns
-returns g c = record {
-  serves = begun-so (g .L·Length .kind) (c .args .self .now) (c .args .lengths .now) (c .args .home) (c .begin .last .self) (c .begin .last .lengths) (c .in-Continue-may-begin .ensures tt) (c .begin .ensures .does);
-  ticket = refl;
-  refused = λ e. absurd (both-ways true e refl);
-}
+returns g c =
+    let b = c .args .self .now in
+    let ok = may-do (g .L·Length .kind) b (c .args .lengths .now) (begin (c .args .home)) (step (began (c .args .home))) (c .in-Continue-may-begin .ensures tt) refl in
+    record {
+      serves = begun-so (g .L·Length .kind) (c .args .self .now) (c .args .lengths .now) (c .args .home) (c .begin .last .self) (c .begin .last .lengths) (c .in-Continue-may-begin .ensures tt) (c .begin .ensures .does);
+      ticket = refl;
+      owed = record { some = ok .0 .0; few = ok .0 .1; room = omega (arith, ok .0 .2, b .trunks .ok .0); open-run = refl; bears = refl };
+      refused = λ e. absurd (both-ways true e refl);
+    }

@@ -23,6 +23,7 @@ returns-in-Break-may-pass g c =
     let p = err-from-errBy (c .from-residual .result) (c .from-residual .ensures .1) in
     rw (p .1, p .2) (record {
       serves = pass-refused (g .L·Length .kind) (c .args .self .now) (c .args .lengths .now) (g .O·ScanOrder .answers) (c .args .ticket .now .number) (number-of (c .in-Break-may-pass .field-0 .0)) (c .in-Break-may-pass .ensures tt);
+      owed = λ t o. o;
       refused = λ _. refl;
     })
 
@@ -74,5 +75,6 @@ returns g c =
       serves = passed-so (g .L·Length .kind) b (c .args .lengths .now) (g .O·ScanOrder .answers) (c .args .ticket .now .number) (vec-items (c .pass .last .list)) (c .pass .last .self) (c .pass .last .lengths) (shows (c .progress .result)) (c .in-Continue-may-pass .ensures tt)
           (record { rule = rw (c .deref .ensures .value) at (c .pass .ensures .rule .0); means = rw (c .deref .ensures .value) at (c .pass .ensures .rule .1) })
           (subst (λ (ts : List Trunk). run-of (c .pass .last .self) (c .pass .last .lengths) ≡ passed (g .L·Length .kind) (b .n) ts (vec-items (c .pass .last .list)) (run-of (b .work) (c .args .lengths .now))) (c .deref .ensures .value) (c .pass .ensures .does)) (c .progress .ensures);
+      owed = λ t o. record { some = o .some; few = o .few; room = o .room; open-run = o .open-run; bears = o .bears };
       refused = λ e. absurd (both-ways true e refl);
     }

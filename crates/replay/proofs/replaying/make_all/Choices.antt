@@ -12,5 +12,5 @@ Inv-loop-i g l =
     Bears (l .held) (l .book)
     × Same-name (l .entry .book) (l .book)
     × Makes-all (g .L·Length .kind) (By-order (g .L·Length .kind) (g .O·ScanOrder .answers) (l .entry .book .n)) (state-of (l .entry .book) (l .entry .lengths))
-        (map (call-of (l .entry .book .number)) (take (l .i) (l .calls))) (map answer-of (take (l .i) (l .answers))) (state-of (l .book) (l .lengths))
+    (map (call-of (l .entry .book .number)) (take (l .i) (l .calls))) (map answer-of (take (l .i) (l .answers))) (state-of (l .book) (l .lengths))
     × (drop (l .i) (l .answers) ≡ drop (l .i) (l .entry .answers))

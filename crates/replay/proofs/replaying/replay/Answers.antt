@@ -17,11 +17,11 @@ returns g c =
     let many : ℕ = length (c .args .calls .now) in
     let last = c .make-all-ticket .last .lengths in
     let makes = made-on-new K (c .args .number) (c .args .n) (c .args .lengths .now) rule b (new .number .0) (new .number .1) (new .empty .0) (new .empty .1) (c .args .calls .now)
-        (map answer-of (take many (c .make-all-ticket .last .answers))) (state-of (c .make-all-ticket .last .book) last) (c .make-all-ticket .ensures .makes) in
+    (map answer-of (take many (c .make-all-ticket .last .answers))) (state-of (c .make-all-ticket .last .book) last) (c .make-all-ticket .ensures .makes) in
     let all = replays-so K (c .args .number) (c .args .n) (c .args .lengths .now) rule (c .args .calls .now) (take many (c .make-all-ticket .last .answers))
-        (record { book = c .make-all-ticket .last .book; ticket = c .make-all-ticket .result; read = c .read-out-read .result }) last (c .min .result) (c .args .charges .now) (c .read-out-read .last .charges)
-        (c .args .arrivals .now) (c .read-out-read .last .arrivals) (c .args .looped .now) (c .read-out-read .last .looped) makes (c .make-all-ticket .ensures .bears .0) (c .if-looped-n .left)
-        (λ few. c .min .ensures ∙ omega arith) (c .read-out-read .ensures) in
+    (record { book = c .make-all-ticket .last .book; ticket = c .make-all-ticket .result; read = c .read-out-read .result }) last (c .min .result) (c .args .charges .now) (c .read-out-read .last .charges)
+    (c .args .arrivals .now) (c .read-out-read .last .arrivals) (c .args .looped .now) (c .read-out-read .last .looped) makes (c .make-all-ticket .ensures .bears .0) (c .if-looped-n .left)
+    (λ few. c .min .ensures ∙ omega arith) (c .read-out-read .ensures) in
     record {
       when = long-enough (length (c .args .answers .now)) many (length (c .args .charges .now)) (c .args .n) (length (c .args .arrivals .now)) (length (c .args .looped .now)) (c .if-answers-calls .left) (c .if-charges-n .left) (c .if-arrivals-n .left) (c .if-looped-n .left);
       refused = tt;
