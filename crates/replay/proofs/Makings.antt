@@ -5,6 +5,9 @@ use mathlib.Core.List.{List, []}
 use Prim.Native.Nat.{ℕ}
 use native.Mathlib.Omega.{arith}
 use Rattle.std.proofs.shelf.Tests.{both-ways, not-false}
+use Rattle.std.specs.Results.{isOk}
+use Rattle.std.specs.declared.result.Result.{Result}
+use Rattle.std.specs.declared.result.Result.the-variants.{Ok, Err}
 use Rattle.std.specs.declared.option.Option.{Option}
 use Rattle.std.specs.declared.option.Option.the-variants.{Some, None}
 use Rattle.routing.specs.declared.Trunk.{Trunk}
@@ -22,9 +25,9 @@ use Rattle.book.specs.declared.Phase.{Phase as Stage}
 use Rattle.book.specs.declared.Phase.the-variants.{Idle, Running, Standing}
 use Rattle.book.specs.declared.Book.{Book}
 use Rattle.book.specs.declared.Ticket.{Ticket}
-use Rattle.book.specs.declared.outcome.Progress.{Progress}
 use Rattle.book.specs.declared.outcome.Ending.{Ending}
-use Rattle.book.specs.Answers.{shows, shows-end}
+use Rattle.book.specs.declared.refusal.Refusal.{Refusal}
+use Rattle.book.specs.Answers.{answer-by, shows-end}
 use Rattle.book.specs.Orders.{By-order}
 use Rattle.book.specs.State.{phase-of, state-of, runs}
 use Rattle.replay.specs.Making.{Bears, Makes, Same-name}
@@ -33,10 +36,13 @@ use Rattle.replay.specs.Making.{Bears, Makes, Same-name}
 pub never-done : (k : ℕ) → done ≡ refused k → ⊥
 never-done k e = let z : _≡_ {A = ℕ} 0 1 = cc in omega arith
 
-pub never-shown : (p : Progress) (k : ℕ) → shows p ≡ refused k → ⊥
-never-shown (Progress.Working a b) k e = let z : _≡_ {A = ℕ} 0 1 = cc in omega arith
-never-shown (Progress.Settled a b) k e = let z : _≡_ {A = ℕ} 0 1 = cc in omega arith
-never-shown (Progress.Loop a b) k e = let z : _≡_ {A = ℕ} 0 1 = cc in omega arith
+pub never-numbered : (t k : ℕ) → numbered t ≡ refused k → ⊥
+never-numbered t k e = let z : _≡_ {A = ℕ} 0 1 = cc in omega arith
+
+-- a result that is answered by a refusal is one
+pub refused-err : {A : Type 0} (f : A → Answer) → ((a : A) (k : ℕ) → f a ≡ refused k → ⊥) → (r : Result A Refusal) (k : ℕ) → answer-by f r ≡ refused k → isOk r ≡ false
+refused-err f never (Ok a) k e = absurd (never a k e)
+refused-err f never (Err j) k e = refl
 
 pub never-ended : (p : Ending) (k : ℕ) → shows-end p ≡ refused k → ⊥
 never-ended (Ending.Settled a b) k e = let z : _≡_ {A = ℕ} 0 1 = cc in omega arith
@@ -146,47 +152,38 @@ module _ {L : Type 0} (K : Kind L) (b b′ : Book) (ls ls′ : List L) where
   runs-now : (x : Bool) → is-running (s′ .phase) ≡ x → runs (b′ .phase) ≡ x
   runs-now x e = sym (running-is (b′ .phase) (run-of (b′ .work) ls′)) ∙ e
 
-  pub runs-kept : (held : Option Ticket) → runs (b′ .phase) ≡ runs (b .phase) → b′ .number ≡ b .number → Bears held b → Bears held b′
-  runs-kept None same name bears = same ∙ bears
-  runs-kept (Some t) same name bears = (same ∙ bears .0, bears .1 ∙ sym name)
-
   -- an accepted call of a run
-  pub opens-so : (R : List Trunk → Run L → List ℕ → Type 0) (c : Call L) (x : Answer) → ((k : ℕ) → x ≡ refused k → ⊥) → leaves-open K c ≡ true → Does K R s c x s′ → runs (b′ .phase) ≡ true
-  opens-so R c x not-refused way d = runs-now true (accepted-so K R s c x s′ not-refused d .opened ∙ way)
-
   pub shuts-so : (R : List Trunk → Run L → List ℕ → Type 0) (c : Call L) (x : Answer) → ((k : ℕ) → x ≡ refused k → ⊥) → leaves-open K c ≡ false → Does K R s c x s′ → runs (b′ .phase) ≡ false
   shuts-so R c x not-refused way d = runs-now false (accepted-so K R s c x s′ not-refused d .opened ∙ way)
 
-  pub edits-so : (R : List Trunk → Run L → List ℕ → Type 0) (c : Call L) (x : Answer) → leaves-open K c ≡ false → (refusal K s c ≡ None → is-running (s .phase) ≡ false) → Does K R s c x s′ → runs (b′ .phase) ≡ runs (b .phase)
-  edits-so R c x way found d = runs-now (runs (b .phase)) (edit-shut K R s c x s′ way found d ∙ running-is (b .phase) (run-of (b .work) ls))
-
-  -- a begin that was accepted found no run open
-  pub begin-shut : (R : List Trunk → Run L → List ℕ → Type 0) (home : ℕ) → Does K R s (begin home) done s′ → runs (b .phase) ≡ true → ⊥
-  begin-shut R home d open-now =
-      let q = none-of (refusals K s (begin home)) (accepted-so K R s (begin home) done s′ never-done d .none) in
-      both-ways (runs (b .phase)) (sym (running-is (b .phase) (run-of (b .work) ls)) ∙ q .1 .1 .0) open-now
+  -- an edit: refused, the book is as it was; accepted, no run is open, before it or after it
+  edit-bears : (R : List Trunk → Run L → List ℕ → Type 0) (c : Call L) (x : Answer) (held : Option Ticket) (size : ℕ) → leaves-open K c ≡ false → (refusal K s c ≡ None → is-running (s .phase) ≡ false)
+      → ((k : ℕ) → x ≡ refused k → b′ ≡ b) → Does K R s c x s′ → Bears held b size → Bears held b′ size
+  edit-bears R c x held size way found back (Does.refuses {k = k} why answer same) bears = subst (λ (q : Book). Bears held q size) (sym (back k answer)) bears
+  edit-bears R c x None size way found back (Does.accepts e none is becomes answer) bears = runs-now false (ap (λ (q : State L). is-running (q .phase)) becomes ∙ open-then K R s c e is ∙ way)
+  edit-bears R c x (Some t) size way found back (Does.accepts e none is becomes answer) bears =
+      absurd (both-ways (runs (b .phase)) (sym (running-is (b .phase) (run-of (b .work) ls)) ∙ found none) (bears .open-run))
 
   -- what `make` promises of a call that is c, and is answered x
-  pub record Made (S : List Trunk → Run L → List ℕ → Type 0) (c : Call L) (x : Answer) (held : Option Ticket) : Type 0 where
+  pub record Made (S : List Trunk → Run L → List ℕ → Type 0) (c : Call L) (x : Answer) (held : Option Ticket) (size : ℕ) : Type 0 where
     pub makes : Makes K S s c x s′
-    pub bears : Bears held b′
+    pub bears : Bears held b′ size
     pub same : Same-name b b′
 
   -- an edit, with the ticket that is held
-  pub edit-made : (R S : List Trunk → Run L → List ℕ → Type 0) (c c₀ : Call L) (x x₀ : Answer) (held : Option Ticket) → c ≡ c₀ → x ≡ x₀ → leaves-open K c₀ ≡ false → is-pass c₀ ≡ false
-      → (refusal K s c₀ ≡ None → is-running (s .phase) ≡ false) → Does K R s c₀ x₀ s′ → Bears held b → Made S c x held
-  edit-made R S c c₀ x x₀ held ec ex way other found d bears =
+  pub edit-made : (R S : List Trunk → Run L → List ℕ → Type 0) (c c₀ : Call L) (x x₀ : Answer) (held : Option Ticket) (size : ℕ) → c ≡ c₀ → x ≡ x₀ → leaves-open K c₀ ≡ false → is-pass c₀ ≡ false
+      → (refusal K s c₀ ≡ None → is-running (s .phase) ≡ false) → ((k : ℕ) → x₀ ≡ refused k → b′ ≡ b) → Does K R s c₀ x₀ s′ → Bears held b size → Made S c x held size
+  edit-made R S c c₀ x x₀ held size ec ex way other found back d bears =
       let d′ : Makes K S s c₀ x₀ s′ = Makes.does (does-any K R S s c₀ x₀ s′ other d) in
-      let name = makes-name K S s c₀ x₀ s′ d′ in
       record {
         makes = subst (λ (q : Call L). Makes K S s q x s′) (sym ec) (subst (λ (y : Answer). Makes K S s c₀ y s′) (sym ex) d′);
-        bears = runs-kept held (edits-so R c₀ x₀ way found d) (name .0) bears;
-        same = name;
+        bears = edit-bears R c₀ x₀ held size way found back d bears;
+        same = makes-name K S s c₀ x₀ s′ d′;
       }
 
   -- a call of a run
-  pub run-made : (S : List Trunk → Run L → List ℕ → Type 0) (c c₀ : Call L) (x : Answer) (held : Option Ticket) → c ≡ c₀ → Makes K S s c₀ x s′ → Bears held b′ → Made S c x held
-  run-made S c c₀ x held ec m bears = record {
+  pub run-made : (S : List Trunk → Run L → List ℕ → Type 0) (c c₀ : Call L) (x : Answer) (held : Option Ticket) (size : ℕ) → c ≡ c₀ → Makes K S s c₀ x s′ → Bears held b′ size → Made S c x held size
+  run-made S c c₀ x held size ec m bears = record {
     makes = subst (λ (q : Call L). Makes K S s q x s′) (sym ec) m;
     bears = bears;
     same = makes-name K S s c₀ x s′ m;

@@ -331,7 +331,7 @@ module _ {L : Type 0} (K : Kind L) (number n : ℕ) (first : List L) (answers : 
 
   -- the whole promise
   pub replays-so : (cs : List (Code L)) (xs : List CodeAnswer) (r : Replayed) (last : List L) (m : ℕ) (charges charges′ : List (Option L)) (arrivals arrivals′ : List (Option ℕ)) (looped looped′ : List ℕ)
-      → Makes-all K R (book []) (map (call-of number) cs) (map answer-of xs) (state-of (r .book) last) → Bears (r .ticket) (r .book) → n ≤ length looped → (n ≤ 256 → m ≡ n)
+      → Makes-all K R (book []) (map (call-of number) cs) (map answer-of xs) (state-of (r .book) last) → Bears (r .ticket) (r .book) (length last) → n ≤ length looped → (n ≤ 256 → m ≡ n)
       → Reads-out K m (state-of (r .book) last) (r .read) charges charges′ arrivals arrivals′ looped looped′
       → Replays K answers number n first last cs xs r charges′ arrivals′ looped′ × Leaves n (r .read) charges charges′ arrivals arrivals′ looped looped′
   replays-so cs xs r last m charges charges′ arrivals arrivals′ ring ring′ makes bears enough same out =

@@ -17,7 +17,7 @@ use Rattle.book.specs.declared.Book.{Book}
 use Rattle.book.specs.declared.Ticket.{Ticket}
 use Rattle.book.specs.Answers.{shows, shows-end}
 use Rattle.book.specs.Refusal.{number-of}
-use Rattle.book.specs.State.{runs}
+use Rattle.book.specs.State.{Owed, runs}
 use Rattle.replay.specs.declared.Call.{Call}
 use Rattle.replay.specs.declared.Call.the-variants.{Lay, Reprice, Bar, Unbar, Begin, Pass, Finish, Abandon}
 use Rattle.replay.specs.declared.Answer.{Answer}
@@ -42,10 +42,10 @@ answer-of Done = done
 answer-of (Passed p) = shows p
 answer-of (Finished e) = shows-end e
 
--- a ticket is held just while a run is open, and bears the book's number
-abbrev pub Bears : Option Ticket → Book → Type 0
-Bears None b = runs (b .phase) ≡ false
-Bears (Some t) b = (runs (b .phase) ≡ true) × (t .number ≡ b .number)
+-- a ticket is held just while a run is open; it is the run's own, and over a length list of this size it can be given back
+abbrev pub Bears : Option Ticket → Book → ℕ → Type 0
+Bears None b size = runs (b .phase) ≡ false
+Bears (Some t) b size = Owed t b size
 
 -- the call c turns s into s′ and is answered x, or it is skipped for want of a ticket
 pub data Makes {L : Type 0} (K : Kind L) (Order-answers : List Trunk → Run L → List ℕ → Type 0) (s : State L) (c : rules.Call L) (x : rules.Answer) (s′ : State L) : Type 0 where

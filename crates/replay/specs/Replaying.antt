@@ -69,6 +69,6 @@ pub record Replays {L : Type 0} (K : Kind L) (answers : ℕ → List Trunk → R
   pub history : History L
   pub plays : Plays K number n first (By-order K answers n) [] (map (call-of number) cs) (map answer-of xs) history
   pub made : state-of (r .book) last ≡ after K number n first history
-  pub ticket : Bears (r .ticket) (r .book)
+  pub ticket : Bears (r .ticket) (r .book) (length last)
   pub right : Right K n history (state-of (r .book) last)
   pub tells : Tells K n (tariff-of history) (state-of (r .book) last) (r .read) charges arrivals looped

@@ -1,5 +1,5 @@
 ghost use mathlib.Core.Path.{_≡_};
-ghost use mathlib.Core.Bool.{true, false};
+ghost use lib.ListN.{length};
 ghost use Rattle.routing.specs.Calls.{abandon as abandon-call, begin as begin-call, do-pass, done as is-done, finish as finish-call, numbered};
 ghost use Rattle.routing.specs.Orders.{Meaning};
 ghost use Rattle.book.specs.Answers.{answer-by};
@@ -40,9 +40,9 @@ fn begin<L: Length>(
     home: u16,
     held: Option<Ticket>,
 ) -> (Answer, Option<Ticket>)
-    requires { ⌜ Bears held (now book) ⌝ }
+    requires { ⌜ Bears held (now book) (length (now lengths)) ⌝ }
     ensures makes { λ r. ⌜ Makes (L·Length .kind) (Meaning (L·Length .kind) (now (book .entry) .n)) (state-of (now (book .entry)) (now (lengths .entry))) (begin-call home) (answer-of (r .0)) (state-of (now (book .exit)) (now (lengths .exit))) ⌝ }
-    ensures bears { λ r. ⌜ Bears (r .1) (now (book .exit)) ⌝ }
+    ensures bears { λ r. ⌜ Bears (r .1) (now (book .exit)) (length (now (lengths .entry))) ⌝ }
 {
     match (book.begin(lengths, home), held) {
         (Ok(ticket), None) => (Answer::Done, Some(ticket)),
@@ -57,9 +57,9 @@ fn pass<L: Length, O: ScanOrder<L>>(
     order: &O,
     held: Option<Ticket>,
 ) -> (Answer, Option<Ticket>)
-    requires { ⌜ Bears held (now book) ⌝ }
+    requires { ⌜ Bears held (now book) (length (now lengths)) ⌝ }
     ensures makes { λ r. ⌜ Makes (L·Length .kind) (By-order (L·Length .kind) (O·ScanOrder .answers) (now (book .entry) .n)) (state-of (now (book .entry)) (now (lengths .entry))) (do-pass (now (book .entry) .number)) (answer-of (r .0)) (state-of (now (book .exit)) (now (lengths .exit))) ⌝ }
-    ensures bears { λ r. ⌜ Bears (r .1) (now (book .exit)) ⌝ }
+    ensures bears { λ r. ⌜ Bears (r .1) (now (book .exit)) (length (now (lengths .entry))) ⌝ }
 {
     let Some(ticket) = held else {
         return (Answer::Skipped, None);
@@ -76,9 +76,9 @@ fn finish<L: Length>(
     lengths: &[L],
     held: Option<Ticket>,
 ) -> (Answer, Option<Ticket>)
-    requires { ⌜ Bears held (now book) ⌝ }
+    requires { ⌜ Bears held (now book) (length (now lengths)) ⌝ }
     ensures makes { λ r. ⌜ Makes (L·Length .kind) (Meaning (L·Length .kind) (now (book .entry) .n)) (state-of (now (book .entry)) (now (lengths .entry))) (finish-call (now (book .entry) .number)) (answer-of (r .0)) (state-of (now (book .exit)) (now (lengths .entry))) ⌝ }
-    ensures bears { λ r. ⌜ Bears (r .1) (now (book .exit)) ⌝ }
+    ensures bears { λ r. ⌜ Bears (r .1) (now (book .exit)) (length (now (lengths .entry))) ⌝ }
 {
     let Some(ticket) = held else {
         return (Answer::Skipped, None);
@@ -94,9 +94,9 @@ fn abandon<L: Length>(
     lengths: &[L],
     held: Option<Ticket>,
 ) -> (Answer, Option<Ticket>)
-    requires { ⌜ Bears held (now book) ⌝ }
+    requires { ⌜ Bears held (now book) (length (now lengths)) ⌝ }
     ensures makes { λ r. ⌜ Makes (L·Length .kind) (Meaning (L·Length .kind) (now (book .entry) .n)) (state-of (now (book .entry)) (now (lengths .entry))) (abandon-call (now (book .entry) .number)) (answer-of (r .0)) (state-of (now (book .exit)) (now (lengths .entry))) ⌝ }
-    ensures bears { λ r. ⌜ Bears (r .1) (now (book .exit)) ⌝ }
+    ensures bears { λ r. ⌜ Bears (r .1) (now (book .exit)) (length (now (lengths .entry))) ⌝ }
 {
     let Some(ticket) = held else {
         return (Answer::Skipped, None);
@@ -115,9 +115,9 @@ pub(crate) fn make<L: Length, O: ScanOrder<L>>(
     held: Option<Ticket>,
     call: Call<L>,
 ) -> (Answer, Option<Ticket>)
-    requires { ⌜ Bears held (now book) ⌝ }
+    requires { ⌜ Bears held (now book) (length (now lengths)) ⌝ }
     ensures makes { λ r. ⌜ Makes (L·Length .kind) (By-order (L·Length .kind) (O·ScanOrder .answers) (now (book .entry) .n)) (state-of (now (book .entry)) (now (lengths .entry))) (call-of (now (book .entry) .number) call) (answer-of (r .0)) (state-of (now (book .exit)) (now (lengths .exit))) ⌝ }
-    ensures bears { λ r. ⌜ Bears (r .1) (now (book .exit)) ⌝ }
+    ensures bears { λ r. ⌜ Bears (r .1) (now (book .exit)) (length (now (lengths .entry))) ⌝ }
     ensures same { λ _. ⌜ Same-name (now (book .entry)) (now (book .exit)) ⌝ }
 {
     match call {

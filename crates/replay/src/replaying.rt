@@ -35,7 +35,7 @@ fn make_all<L: Length, O: ScanOrder<L>>(
 ) -> Option<Ticket>
     requires { ⌜ runs (now book .phase) ≡ false ⌝ ∗ ⌜ length (now calls) ≤ length (now answers) ⌝ }
     ensures makes { λ r. ⌜ Makes-all (L·Length .kind) (By-order (L·Length .kind) (O·ScanOrder .answers) (now (book .entry) .n)) (state-of (now (book .entry)) (now (lengths .entry))) (map (call-of (now (book .entry) .number)) (now (calls .entry))) (map answer-of (take (length (now (calls .entry))) (now (answers .exit)))) (state-of (now (book .exit)) (now (lengths .exit))) ⌝ }
-    ensures bears { λ r. ⌜ Bears r (now (book .exit)) ⌝ ∗ ⌜ Same-name (now (book .entry)) (now (book .exit)) ⌝ }
+    ensures bears { λ r. ⌜ Bears r (now (book .exit)) (length (now (lengths .entry))) ⌝ ∗ ⌜ Same-name (now (book .entry)) (now (book .exit)) ⌝ }
     ensures kept { λ _. ⌜ drop (length (now (calls .entry))) (now (answers .exit)) ≡ drop (length (now (calls .entry))) (now (answers .entry)) ⌝ }
 {
     let mut held = None;

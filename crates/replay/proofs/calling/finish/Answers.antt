@@ -9,6 +9,7 @@ use Rattle.book.specs.Answers.{shows-end}
 use Rattle.book.specs.Refusal.{number-of}
 use Rattle.book.specs.State.{state-of}
 use Prim.Native.Nat.{ℕ}
+use lib.ListN.{length}
 use Rattle.replay.specs.Making.{Bears, Makes}
 use Rattle.std.specs.declared.option.Option.the-variants.{Some}
 use Rattle.replay.proofs.Makings.{shuts-so, never-ended}
@@ -19,8 +20,9 @@ returns-in-Ok g c =
     let K = g .L·Length .kind in
     let b = c .args .book .now in
     let b′ = c .finish .last .self in
-    let bears : Bears (Some (c .in-Some .ticket)) b = subst (λ (h : Option Ticket). Bears h b) (c .in-Some .is) (c .pre) in
-    let does = subst (λ (k : ℕ). Does K (Meaning K (b .n)) (state-of b (c .args .lengths .now)) (finish k) (shows-end (c .in-Ok .ending)) (state-of b′ (c .args .lengths .now))) (bears .1) (c .in-Ok .ensures tt .serves .does) in
+    let size = length (c .args .lengths .now) in
+    let bears : Bears (Some (c .in-Some .ticket)) b size = subst (λ (h : Option Ticket). Bears h b size) (c .in-Some .is) (c .pre) in
+    let does = subst (λ (k : ℕ). Does K (Meaning K (b .n)) (state-of b (c .args .lengths .now)) (finish k) (shows-end (c .in-Ok .ending)) (state-of b′ (c .args .lengths .now))) (bears .bears) (c .in-Ok .ensures tt .serves .does) in
     record {
       makes = Makes.does does;
       bears = shuts-so K b b′ (c .args .lengths .now) (c .args .lengths .now) (Meaning K (b .n)) (finish (b .number)) (shows-end (c .in-Ok .ending)) (never-ended (c .in-Ok .ending)) refl does;
@@ -31,10 +33,11 @@ returns-in-Err g c =
     let K = g .L·Length .kind in
     let b = c .args .book .now in
     let b′ = c .finish .last .self in
-    let bears : Bears (Some (c .in-Some .ticket)) b = subst (λ (h : Option Ticket). Bears h b) (c .in-Some .is) (c .pre) in
+    let size = length (c .args .lengths .now) in
+    let bears : Bears (Some (c .in-Some .ticket)) b size = subst (λ (h : Option Ticket). Bears h b size) (c .in-Some .is) (c .pre) in
     let same : b′ ≡ b = c .in-Err .ensures tt .refused refl in
     let back : c .in-Err .field-0 .back ≡ c .in-Some .ticket = c .in-Err .ensures tt .ticket in
     record {
-      makes = Makes.does (subst (λ (k : ℕ). Does K (Meaning K (b .n)) (state-of b (c .args .lengths .now)) (finish k) (refused (number-of (c .in-Err .field-0 .refusal))) (state-of b′ (c .args .lengths .now))) (bears .1) (c .in-Err .ensures tt .serves .does));
-      bears = subst (λ (q : Book). Bears (Some (c .in-Err .field-0 .back)) q) (sym same) (subst (λ (t : Ticket). Bears (Some t) b) (sym back) bears);
+      makes = Makes.does (subst (λ (k : ℕ). Does K (Meaning K (b .n)) (state-of b (c .args .lengths .now)) (finish k) (refused (number-of (c .in-Err .field-0 .refusal))) (state-of b′ (c .args .lengths .now))) (bears .bears) (c .in-Err .ensures tt .serves .does));
+      bears = subst (λ (q : Book). Bears (Some (c .in-Err .field-0 .back)) q size) (sym same) (subst (λ (t : Ticket). Bears (Some t) b size) (sym back) bears);
     }

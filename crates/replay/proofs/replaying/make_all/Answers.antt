@@ -8,7 +8,7 @@ use Rattle.routing.specs.Calls as rules
 use Rattle.book.specs.Orders.{By-order}
 use Rattle.book.specs.State.{state-of}
 use Rattle.replay.specs.declared.Call.{Call}
-use Rattle.replay.specs.Making.{answer-of, call-of}
+use Rattle.replay.specs.Making.{Bears, answer-of, call-of}
 use Rattle.replay.specs.Replaying.{Makes-all}
 use Rattle.replay.proofs.Lists.{so-on, behind}
 use Rattle.replay.proofs.replaying.make_all.Needs as need
@@ -22,7 +22,7 @@ loop-i-again g c =
     let e = c .make-answer .ensures in
     let same = c .loop-i .inv .1 in
     let inside : c .loop-i .i < length (c .loop-i .answers) = omega (arith, c .pre .1) in (
-      e .bears,
+      subst (λ (k : ℕ). Bears (c .make-answer .result .1) (c .make-answer .last .book) k) (c .loop-i .kept .lengths) (e .bears),
       (e .same .0 ∙ same .0, e .same .1 ∙ same .1),
       so-on (g .L·Length .kind) (g .O·ScanOrder .answers) (b .number) (b .n) (state-of b (c .args .lengths .now)) (c .args .calls .now) (c .loop-i .i) (c .loop-i .answers) (state-of (c .loop-i .book) (c .loop-i .lengths))
           (state-of (c .make-answer .last .book) (c .make-answer .last .lengths)) (c .index-calls-i .result) (c .make-answer .result .0) (c .loop-i .book .number) (c .loop-i .book .n) (c .loop-i-test .taken) inside (c .index-calls-i .is) (same .0) (same .1) (c .loop-i .inv .2) (e .makes),
