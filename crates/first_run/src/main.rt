@@ -1,6 +1,8 @@
 // A tariff from beginning to end: laid, run in both orders, changed and run again, and once more as a list of calls.
 mod showing;
 mod stories;
+#[cfg(test)]
+mod tests;
 
 use book::Book;
 use book::Space;

@@ -180,7 +180,7 @@ pub fn from_a_list(rt: &(impl Print + Alloc<A = Global>)) -> Result<(), AnyError
     ) {
         Err(Refused { refusal, back: _ }) => show_refusal(rt, "the list", refusal)?,
         Ok(replayed) => {
-            let read = close(replayed, &lengths);
+            let (_, read) = close(replayed, &lengths);
             show_answers(rt, &answers)?;
             show_read(rt, read, &charges, &arrivals, &looped)?;
         }
@@ -188,8 +188,8 @@ pub fn from_a_list(rt: &(impl Print + Alloc<A = Global>)) -> Result<(), AnyError
     Ok(())
 }
 
-// Gives back the ticket of a run that the calls left open, and tells what was read.
-fn close(replayed: Replayed, lengths: &[Charge]) -> Read
+// Gives back the ticket of a run that the calls left open, and hands the book on with what was read.
+pub(crate) fn close(replayed: Replayed, lengths: &[Charge]) -> (Book, Read)
     requires { ⌜ Bears (replayed .ticket) (replayed .book) (length (now lengths)) ⌝ }
 {
     let Replayed {
@@ -201,5 +201,5 @@ fn close(replayed: Replayed, lengths: &[Charge]) -> Read
         None => {}
         Some(ticket) => give_back(&mut book, lengths, ticket),
     }
-    read
+    (book, read)
 }

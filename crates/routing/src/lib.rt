@@ -1,10 +1,6 @@
 ghost use mathlib.Core.Path.{_≡_};
-ghost use mathlib.Core.List.{List, []};
 ghost use Prim.Native.Nat.{ℕ};
 ghost use Rattle.routing.specs.Kind.{Kind};
-ghost use Rattle.routing.specs.Orders.{Meaning};
-ghost use Rattle.routing.specs.Promise.{Right};
-ghost use Rattle.routing.specs.History.{History, Accepted, after};
 
 // A kind of length. What it means and the laws that it keeps are in `kind`, and code knows no more of it.
 pub trait Length: Copy {
@@ -45,11 +41,4 @@ pub enum Verdict {
     Working,
     Settled,
     Looped(u16, u16),
-}
-
-// The promise, cited by a contract so that the check asks for its proof.
-pub fn stands<L: Length>(l: L) -> u8
-    ensures { λ r. ⌜ ((number n : ℕ) (first : List L) (h : History L) → Accepted (L·Length .kind) number n first (Meaning (L·Length .kind) n) h → Right (L·Length .kind) n h (after (L·Length .kind) number n first h)) ⌝ }
-{
-    0
 }
