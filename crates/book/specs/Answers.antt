@@ -31,11 +31,13 @@ abbrev pub answer-back : {A T : Type 0} → (A → Answer) → Result A (Refused
 answer-back f (Ok a) = f a
 answer-back f (Err k) = refused (number-of (k .refusal))
 
+-- how a pass shows the run
 abbrev pub shows : Progress → Answer
 shows (progress.Working p s) = shown says-working p s
 shows (progress.Settled p s) = shown says-settled p s
 shows (progress.Loop p s) = shown says-loop p s
 
+-- how a finish shows it
 abbrev pub shows-end : Ending → Answer
 shows-end (ending.Settled p s) = shown says-settled p s
 shows-end (ending.Loop p s) = shown says-loop p s

@@ -43,6 +43,7 @@ same (Some a) (Some b) = eqb a b
 abbrev pub Roomy : Vec Trunk Global → Index → Work → Type 0
 Roomy ts ix w = (4096 ≤ vec-cap ts) × (256 ≤ vec-cap (ix .first)) × (4096 ≤ vec-cap (ix .next)) × (256 ≤ vec-cap (w .table .entries))
 
+-- and room for those who wait, and for the list that an order answers
 abbrev pub Spare : Work → Vec ℕ Global → Type 0
 Spare w list = (256 ≤ vec-cap (w .waiting)) × (256 ≤ vec-cap list)
 
@@ -71,9 +72,11 @@ in-run (Standing home) k = k
 abbrev pub Indexed : Phase → ℕ → Vec Trunk Global → Index → Type 0
 Indexed p n ts ix = has-run p ≡ true → (vec-len (ix .first) ≡ n) × (vec-len ts ≤ vec-len (ix .next))
 
+-- its first trunk from each exchange
 abbrev pub Firsts : Phase → ℕ → Vec Trunk Global → Index → Type 0
 Firsts p n ts ix = (v : ℕ) → v < in-run p n → same (getD (vec-items (ix .first)) v None) (front (rest (vec-items ts) v 0)) ≡ true
 
+-- and after each open trunk the next from the same exchange
 abbrev pub Nexts : Phase → Vec Trunk Global → Index → Type 0
 Nexts p ts ix =
     (t : ℕ) → t < in-run p (vec-len ts) → trunk (vec-items ts) t .barred ≡ false

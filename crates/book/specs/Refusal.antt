@@ -3,6 +3,7 @@ use Prim.Native.Nat.{ℕ}
 use Rattle.book.specs.declared.refusal.Refusal.{Refusal}
 use Rattle.book.specs.declared.refusal.Refusal.the-variants.{BadSize, ShortList, Void, RunOpen, NoSuchExchange, LengthTooGreat, NoPlace, NoSuchTrunk, OtherTicket, NoRunOpen, RunOver, RunNotOver, NoFinishedRun, RunIsLoop, RunIsSettled, Unreached, NoRoom}
 
+-- each refusal has its number
 abbrev pub number-of : Refusal → ℕ
 number-of BadSize = 1
 number-of ShortList = 2

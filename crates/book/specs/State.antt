@@ -19,6 +19,7 @@ phase-of Idle r = idle
 phase-of (Running home) r = running home r
 phase-of (Standing home) r = standing home r
 
+-- a book with the list ls
 abbrev pub state-of : {L : Type 0} → Book → List L → State L
 state-of b ls = record {
   number = b .number;

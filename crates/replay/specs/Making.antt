@@ -34,6 +34,7 @@ call-of number Pass = do-pass number
 call-of number Finish = finish number
 call-of number Abandon = abandon number
 
+-- an answer, without the types of the code
 abbrev pub answer-of : Answer → rules.Answer
 answer-of (Refused k) = refused (number-of k)
 answer-of Skipped = skipped

@@ -27,13 +27,15 @@ pub record Run (L : Type 0) : Type 0 where
   pub scans : ℕ
   pub verdict : Verdict
 
--- what is read past the end of a list
+-- the trunk that is read past the end of a table
 abbrev pub no-trunk : Trunk
 no-trunk = record { from = 0; to = 0; barred = false }
 
+-- the entry of an exchange that is not reached
 abbrev pub unreached : Entry
 unreached = record { reached = false; arriving = None }
 
+-- the trunk of number t
 abbrev pub trunk : List Trunk → ℕ → Trunk
 trunk ts t = getD ts t no-trunk
 
@@ -44,6 +46,7 @@ leaving-from k (t ∷ ts) v =
     let rest : List ℕ = leaving-from (suc k) ts v in
     cond (eqb (t .from) v && not (t .barred)) (k ∷ rest) rest
 
+-- the open trunks that leave v, lowest number first
 abbrev pub leaving : List Trunk → ℕ → List ℕ
 leaving ts v = leaving-from 0 ts v
 
@@ -53,6 +56,7 @@ back zero ts es v = v ∷ []
 back (suc k) ts es v =
     v ∷ (elim (getD es v unreached .arriving) [ None ↦ [] | Some t ↦ back k ts es (trunk ts t .from) ])
 
+-- a loop was found
 abbrev pub is-loop : Verdict → Bool
 is-loop working = false
 is-loop settled = false
@@ -69,6 +73,7 @@ counted k = (k + 1) % 2 ^ 64
 
 -- over n exchanges and the trunks ts
 module _ {L : Type 0} (K : Kind L) (n : ℕ) (ts : List Trunk) where
+  -- the label of v
   abbrev pub label : Run L → ℕ → L
   label r v = getD (r .lengths) v (K .none)
 
@@ -76,6 +81,7 @@ module _ {L : Type 0} (K : Kind L) (n : ℕ) (ts : List Trunk) where
   abbrev pub sum-by : Run L → ℕ → ℕ → L
   sum-by r v t = K .add (label r v) (getD (r .lengths) (n + t) (K .none))
 
+  -- v is reached
   abbrev pub is-reached : Run L → ℕ → Bool
   is-reached r v = getD (r .entries) v unreached .reached
 

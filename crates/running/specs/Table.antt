@@ -29,6 +29,7 @@ seen-all b = map seen (vec-items (b .entries))
 abbrev pub dues : Table → List Bool
 dues b = map (λ e. due (e .waits)) (vec-items (b .entries))
 
+-- whether x is due
 abbrev pub is-due : Table → ℕ → Bool
 is-due b x = getD (dues b) x false
 

@@ -48,13 +48,15 @@ pub record Marks (n : ℕ) (ds : List Bool) (ws later : List ℕ) : Type 0 where
   pub due : (x : ℕ) → x < n → getD ds x false ≡ (has x ws || has x later)
   pub apart : (x : ℕ) → has x later ≡ true → has x ws ≡ false
 
--- both speak of some fields, so that a change of another leaves them as they are
+-- what holds of a run; it speaks of some fields alone, so that a change of another leaves it as it is
 abbrev pub Sound-over : ℕ → ℕ → Work → Type 0
 Sound-over n m w = Holds n m (w .table) (w .waiting)
 
+-- the same over a network
 abbrev pub Sound : Network → Work → Type 0
 Sound net w = Sound-over (net .n) (length (trunks-of net)) w
 
+-- the marks of a run, while those of `later` have their turn to come
 abbrev pub Marked : ℕ → Work → List ℕ → Type 0
 Marked n w later = Marks n (dues (w .table)) (vec-items (w .waiting)) later
 
