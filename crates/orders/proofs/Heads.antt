@@ -1,7 +1,7 @@
 -- What a search asks of a trunk, by how the trunk's head stands.
 use mathlib.Core.Path.{_≡_, ap}
 use mathlib.Core.List.{List}
-use mathlib.Core.Bool.{Bool, true, false, not}
+use mathlib.Core.Bool.{Bool, true, false}
 use Prim.Native.Nat.{ℕ, _<_}
 use native.Mathlib.Omega.{arith}
 use lib.ListN.{length, getD}
@@ -9,7 +9,7 @@ use Rattle.std.proofs.shelf.Lists.{getD-read}
 use Rattle.std.specs.Of.Vec.{vec-items, vec-len}
 use Rattle.routing.specs.declared.Trunk.{Trunk}
 use Rattle.routing.specs.Kind.{Kind}
-use Rattle.routing.specs.Rules.{Run, trunk, improving, is-reached, label, sum-by}
+use Rattle.routing.specs.Rules.{Run, trunk, is-reached, label, sum-by}
 use Rattle.routing.specs.Orders.{follows}
 use Rattle.running.specs.declared.network.Network.{Network}
 use Rattle.running.specs.declared.table.Entry.{Entry}
@@ -41,9 +41,6 @@ module _ {L : Type 0} (K : Kind L) (net : Network) (work : Work) (ls : List L) (
     pub follows-none : e .reached ≡ false → e .reached ≡ follows K n ts run v t
     follows-none free = rw (read, free)
 
-    pub improves-unreached : e .reached ≡ false → not (e .reached) ≡ improving K n ts run v t
-    improves-unreached free = rw (read, free)
-
     -- l was read as the head's label
     module _ (held : e .reached ≡ true) (roomy : Roomy net ls) (sum l : L) (sum-is : sum ≡ sum-by K n ts run v t) (l-is : l ≡ getD ls head l) where
       label-is : l ≡ label K n ts run head
@@ -51,6 +48,3 @@ module _ {L : Type 0} (K : Kind L) (net : Network) (work : Work) (ls : List L) (
 
       pub follows-by : (b : Bool) → b ≡ K .notAbove (K .value sum) (K .value l) → b ≡ follows K n ts run v t
       follows-by b above = rw (read, held, ← sum-is, ← label-is) above
-
-      pub improves-by : (b : Bool) → b ≡ K .notAbove (K .value l) (K .value sum) → not b ≡ improving K n ts run v t
-      improves-by b above = rw (read, held, ← sum-is, ← label-is) (ap not above)

@@ -27,9 +27,7 @@ fn improves<L: Length>(net: Network<'_>, work: &Work, lengths: &[L], v: u16, t: 
     requires sound { ⌜ Sound net (now work) ⌝ }
     ensures { λ r. ⌜ r ≡ improving (L·Length .kind) (net .entry .n) (trunks-of (net .entry)) (run-of (now (work .entry)) (now (lengths .entry))) v t ⌝ }
 {
-    let w = net.trunks[t as usize].to as usize;
-    let sum = sum_by(net, lengths, v, t);
-    !work.table.entries[w].reached || !lengths[w].not_above(sum)
+    work.improved(net, lengths, v, t).is_some()
 }
 
 // Whether a search goes on from `v` by trunk `t`: its head is reached, and the sum is not above the label there.

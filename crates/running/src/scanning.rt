@@ -16,7 +16,7 @@ use routing::Verdict;
 
 impl Work {
     // The label that trunk `t` from `v` would give its head, if it improves.
-    fn improved<L: Length>(&self, net: Network<'_>, lengths: &[L], v: u16, t: u16) -> Option<L>
+    pub fn improved<L: Length>(&self, net: Network<'_>, lengths: &[L], v: u16, t: u16) -> Option<L>
         requires sizes { ⌜ v < net .n ⌝ ∗ ⌜ t < length (trunks-of net) ⌝ ∗ ⌜ Roomy net (now lengths) ⌝ }
         requires wired { ⌜ Wired net ⌝ }
         requires sound { ⌜ Sound net (now self) ⌝ }
