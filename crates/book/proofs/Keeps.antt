@@ -24,7 +24,7 @@ use Rattle.running.specs.declared.table.Table.{Table}
 use Rattle.running.specs.declared.Work.{Work}
 use Rattle.running.specs.Network.{Ends, Chained-from, Wired}
 use denote.Ref.{RefT, now}
-use Rattle.running.specs.Table.{due, seen, seen-all, dues, is-due}
+use Rattle.running.specs.Table.{seen-all, is-due}
 use Rattle.running.specs.Work.{Arrivals, Sound-over, Marked, names-inside}
 use Rattle.book.specs.declared.Phase.{Phase}
 use Rattle.book.specs.declared.Phase.the-variants.{Idle, Running, Standing}

@@ -165,13 +165,14 @@ fn a_settled_run_is_read(rt: LibcRuntime) -> Result<(), Fail> {
     ];
     let mut answers = [Answer::Skipped; 5];
     let book = made(rt.alloc(), 3, &mut lengths, &calls, &mut answers)?;
-    let mut trunks = [7u16; 2];
+    let mut none: [u16; 0] = [];
     check_eq(refused(book.charge(&lengths[0..3], 9)), 2)?;
     check_eq(refused(book.charge(&lengths, 9)), 5)?;
-    check_eq(refused(book.route(&lengths, 9, &mut trunks)), 5)?;
-    check_eq(refused(book.route(&lengths, 2, &mut trunks[0..0])), 16)?;
-    check_eq(refused(book.route(&lengths, 1, &mut trunks[0..0])), 17)?;
-    check_eq(refused(book.loop_trunks(&lengths, &mut trunks[0..0])), 15)?;
+    check_eq(refused(book.route(&lengths, 9, &mut none)), 5)?;
+    check_eq(refused(book.route(&lengths, 2, &mut none)), 16)?;
+    check_eq(refused(book.route(&lengths, 1, &mut none)), 17)?;
+    check_eq(refused(book.loop_trunks(&lengths, &mut none)), 15)?;
+    let mut trunks = [7u16; 2];
     check_eq(refused(book.route(&lengths, 1, &mut trunks)), 0)?;
     check_eq(trunks[0], 0)?;
     check_eq(trunks[1], 7)
@@ -188,10 +189,11 @@ fn a_loop_is_read(rt: LibcRuntime) -> Result<(), Fail> {
     ];
     let mut answers = [Answer::Skipped; 4];
     let book = made(rt.alloc(), 1, &mut lengths, &calls, &mut answers)?;
+    let mut none: [u16; 0] = [];
     let mut trunks = [7u16; 1];
     check_eq(refused(book.charge(&lengths, 9)), 14)?;
     check_eq(refused(book.arrival(&lengths, 9)), 14)?;
-    check_eq(refused(book.loop_trunks(&lengths, &mut trunks[0..0])), 17)?;
+    check_eq(refused(book.loop_trunks(&lengths, &mut none)), 17)?;
     check_eq(refused(book.loop_trunks(&lengths, &mut trunks)), 0)?;
     check_eq(trunks[0], 0)
 }

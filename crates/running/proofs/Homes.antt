@@ -22,16 +22,15 @@ use Rattle.routing.specs.Rules as rules
 use Rattle.routing.proofs.Lists.{has-only, has-here}
 use Rattle.running.specs.declared.table.Entry.{Entry}
 use Rattle.running.specs.declared.table.Table.{Table}
-use Rattle.running.specs.declared.table.Waits.the-variants.{Nowhere, Listed}
-use Rattle.running.specs.Table.{due, seen, seen-all, dues}
+use Rattle.running.specs.Table.{seen, seen-all, dues}
 use Rattle.running.specs.Work.{Holds, Marks}
 
 -- the entries that a run begins with
 abbrev pub blank : Entry
-blank = record { reached = false; arriving = None; waits = Nowhere }
+blank = record { reached = false; arriving = None; due = false }
 
 abbrev pub home-entry : Entry
-home-entry = record { reached = true; arriving = None; waits = Listed }
+home-entry = record { reached = true; arriving = None; due = true }
 
 abbrev pub at-home : rules.Entry
 at-home = record { reached = true; arriving = None }

@@ -21,7 +21,7 @@ use Rattle.routing.proofs.Chains.{pigeons}
 use Rattle.std.specs.declared.vec.Vec.{Vec}
 use Rattle.std.specs.declared.alloc.Global.{Global}
 use Rattle.running.specs.declared.table.Table.{Table}
-use Rattle.running.specs.Table.{due, dues, is-due, arrived}
+use Rattle.running.specs.Table.{dues, is-due, arrived}
 use Rattle.running.specs.Work.{Arrivals, Holds}
 
 pub arrivals-set : (m : ℕ) (es : List Entry) (x t : ℕ) → Arrivals m es → t < m → Arrivals m (set es x (arrived t))
@@ -102,7 +102,7 @@ apart-push ws later x free before z h =
 -- at most n exchanges wait
 module _ (n m : ℕ) (b : Table) (ws : Vec ℕ Global) (s : Holds n m b ws) where
   pub due-inside : (x : ℕ) → is-due b x ≡ true → x < n
-  due-inside x e = let l = due-below (dues b) x e in omega (arith, s .entries, b .entries .ok .0, length-map (vec-items (b .entries)) (λ a. due (a .waits)))
+  due-inside x e = let l = due-below (dues b) x e in omega (arith, s .entries, b .entries .ok .0, length-map (vec-items (b .entries)) (λ a. a .due))
 
   pub few-wait : length (vec-items ws) ≤ n
   few-wait = pigeons n (vec-items ws) (s .once) (λ z h. due-inside z (s .waits z h))

@@ -20,7 +20,7 @@ use Rattle.running.specs.declared.network.Network.{Network}
 use Rattle.running.specs.declared.table.Table.{Table}
 use Rattle.running.specs.declared.Work.{Work}
 use Rattle.running.specs.Network.{Wired, trunks-of}
-use Rattle.running.specs.Table.{due, seen, seen-all, dues, is-due, arrived}
+use Rattle.running.specs.Table.{seen, seen-all, dues, is-due, arrived}
 use Rattle.running.specs.Work.{run-of, Arrivals, Holds, Marks, Marked, Sound}
 use Rattle.running.proofs.Moves.{arrivals-set, reached-set, reached-push, set-due-kept, waits-push, marked-push, apart-push, once-waiting, tried-moved}
 
@@ -40,7 +40,7 @@ module _ (net : Network) (w : Work) (t : ℕ) (s : Sound net w) (wired : Wired n
   in-seen = omega (arith, head-inside, s .entries, w .table .entries .ok .0, length-map (vec-items (w .table .entries)) seen)
 
   in-dues : head < length (dues (w .table))
-  in-dues = omega (arith, head-inside, s .entries, w .table .entries .ok .0, length-map (vec-items (w .table .entries)) (λ a. due (a .waits)))
+  in-dues = omega (arith, head-inside, s .entries, w .table .entries .ok .0, length-map (vec-items (w .table .entries)) (λ a. a .due))
 
   module _ (b : Table) (new : seen-all b ≡ set (seen-all (w .table)) head (arrived t)) (on : dues b ≡ set (dues (w .table)) head true) (len : vec-len (b .entries) ≡ vec-len (w .table .entries)) where
     arrivals-then : Arrivals (length (trunks-of net)) (seen-all b)

@@ -10,15 +10,15 @@ use Rattle.std.specs.Of.Vec.{vec-items, vec-len}
 use Rattle.routing.specs.Rules.{unreached}
 use Rattle.running.specs.declared.table.Entry.{Entry}
 use Rattle.running.specs.declared.table.Table.{Table}
-use Rattle.running.specs.Table.{due, seen, seen-all, dues, is-due}
+use Rattle.running.specs.Table.{seen, seen-all, dues, is-due}
 
 -- what a read entry says
 module _ (b : Table) (x : ℕ) (e : Entry) (inside : x < vec-len (b .entries)) (is : e ≡ getD (vec-items (b .entries)) x e) where
   pub read-seen : getD (seen-all b) x unreached ≡ seen e
   read-seen = getD-map seen (vec-items (b .entries)) x e unreached (omega (arith, b .entries .ok .0)) ∙ ap seen (sym is)
 
-  pub read-due : is-due b x ≡ due (e .waits)
-  read-due = getD-map (λ a. due (a .waits)) (vec-items (b .entries)) x e false (omega (arith, b .entries .ok .0)) ∙ ap (λ a. due (a .waits)) (sym is)
+  pub read-due : is-due b x ≡ e .due
+  read-due = getD-map (λ a. a .due) (vec-items (b .entries)) x e false (omega (arith, b .entries .ok .0)) ∙ ap (λ a. a .due) (sym is)
 
   -- an entry that the rules cannot tell from the one before
   pub seen-same : (new : Entry) → seen new ≡ seen e → map seen (set (vec-items (b .entries)) x new) ≡ seen-all b
@@ -31,5 +31,5 @@ module _ (b : Table) (x : ℕ) (e : Entry) (inside : x < vec-len (b .entries)) (
 pub seen-set : (b : Table) (x : ℕ) (new : Entry) → map seen (set (vec-items (b .entries)) x new) ≡ set (seen-all b) x (seen new)
 seen-set b x new = map-set seen (vec-items (b .entries)) x new
 
-pub dues-set : (b : Table) (x : ℕ) (new : Entry) → map (λ a. due (a .waits)) (set (vec-items (b .entries)) x new) ≡ set (dues b) x (due (new .waits))
-dues-set b x new = map-set (λ a. due (a .waits)) (vec-items (b .entries)) x new
+pub dues-set : (b : Table) (x : ℕ) (new : Entry) → map (λ a. a .due) (set (vec-items (b .entries)) x new) ≡ set (dues b) x (new .due)
+dues-set b x new = map-set (λ a. a .due) (vec-items (b .entries)) x new

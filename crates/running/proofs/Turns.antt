@@ -20,7 +20,7 @@ use Rattle.running.specs.declared.network.Network.{Network}
 use Rattle.running.specs.declared.table.Table.{Table}
 use Rattle.running.specs.declared.Work.{Work}
 use Rattle.running.specs.Network.{trunks-of}
-use Rattle.running.specs.Table.{due, dues, seen-all}
+use Rattle.running.specs.Table.{dues, seen-all}
 use Rattle.running.specs.Work.{Sound, Marked, Marks, Arrivals, Same-room, run-of}
 use Rattle.running.proofs.Rooms.{same-room, room-then}
 
@@ -117,7 +117,7 @@ module _ {L : Type 0} (K : Kind L) (net : Network) (answered : List ℕ) where
       placed-marked : v < n → Marked n (with-table w b) more
       placed-marked inside =
           let o : Once (v ∷ more) = subst (λ xs. Once xs) split (once-drop i answered once) in
-          let long : v < length (dues (w .table)) = omega (arith, before .sound .entries, w .table .entries .ok .0, length-map (vec-items (w .table .entries)) (λ a. due (a .waits))) in
+          let long : v < length (dues (w .table)) = omega (arith, before .sound .entries, w .table .entries .ok .0, length-map (vec-items (w .table .entries)) (λ a. a .due)) in
           subst (λ ds. Marks n ds (vec-items (w .waiting)) more) (sym off) (marks-first n (dues (w .table)) (vec-items (w .waiting)) more v long (o .0) marked-here)
 
       pub turning-on : v < n → is-loop (w .verdict) ≡ false → (w′ : Work) (ls′ : List L) → Sound net w′ → Same-room (with-table w b) w′

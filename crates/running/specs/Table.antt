@@ -6,18 +6,10 @@ use lib.ListN.{getD}
 use Rattle.std.specs.Of.Vec.{vec-items}
 use Rattle.std.specs.declared.option.Option.the-variants.{Some, None}
 use Rattle.routing.specs.Rules as rules
-use Rattle.running.specs.declared.table.Waits.{Waits}
-use Rattle.running.specs.declared.table.Waits.the-variants.{Nowhere, Listed, ForTurn}
 use Rattle.running.specs.declared.table.Entry.{Entry}
 use Rattle.running.specs.declared.table.Table.{Table}
 
--- in the waiting list, or with a turn to come
-abbrev pub due : Waits → Bool
-due Nowhere = false
-due Listed = true
-due ForTurn = true
-
--- an entry, but for where the exchange waits
+-- an entry, but for whether the exchange is due
 abbrev pub seen : Entry → rules.Entry
 seen e = record { reached = e .reached; arriving = e .arriving }
 
@@ -25,9 +17,9 @@ seen e = record { reached = e .reached; arriving = e .arriving }
 abbrev pub seen-all : Table → List rules.Entry
 seen-all b = map seen (vec-items (b .entries))
 
--- of each exchange, whether it is due
+-- of each exchange, whether it is due: it waits, or its turn is to come
 abbrev pub dues : Table → List Bool
-dues b = map (λ e. due (e .waits)) (vec-items (b .entries))
+dues b = map (λ e. e .due) (vec-items (b .entries))
 
 -- whether x is due
 abbrev pub is-due : Table → ℕ → Bool

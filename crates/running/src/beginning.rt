@@ -7,7 +7,6 @@ ghost use Rattle.routing.specs.Rules.{begun};
 ghost use Rattle.running.specs.Work.{run-of, Sound-over, Marked};
 use super::Work;
 use super::table::Entry;
-use super::table::Waits;
 use routing::Length;
 use routing::Verdict;
 
@@ -37,13 +36,13 @@ impl Work {
         let blank = Entry {
             reached: false,
             arriving: None,
-            waits: Waits::Nowhere,
+            due: false,
         };
         refill(&mut self.table.entries, blank, n);
         self.table.entries[home as usize] = Entry {
             reached: true,
             arriving: None,
-            waits: Waits::Listed,
+            due: true,
         };
         self.waiting.clear();
         self.waiting.push_reserved(home);

@@ -10,12 +10,11 @@ ghost use Rattle.routing.specs.Rules.{Run, is-loop, none-left, passed};
 ghost use Rattle.routing.specs.declared.Verdict.the-variants.{Working as working, Settled as settled};
 ghost use Rattle.routing.specs.Orders.{Meaning};
 ghost use Rattle.running.specs.Network.{Wired, Roomy, trunks-of};
-ghost use Rattle.running.specs.Table.{due, is-due, seen-all};
+ghost use Rattle.running.specs.Table.{is-due, seen-all};
 ghost use Rattle.running.specs.Work.{run-of, Sound, Marked, Same-room};
 use super::Work;
 use super::network::Network;
 use super::table::Table;
-use super::table::Waits;
 use routing::Length;
 use routing::Verdict;
 
@@ -35,16 +34,16 @@ pub trait ScanOrder<L: Length> {
 }
 
 impl Table {
-    // Each exchange of `list` waits elsewhere now.
-    fn place_all(&mut self, list: &[u16], waits: Waits)
+    // Each exchange of `list` is due from now on, or not.
+    fn mark_all(&mut self, list: &[u16], due: bool)
         requires { ⌜ ((x : ℕ) → has x (now list) ≡ true → x < vec-len (now self .entries)) ⌝ }
         ensures seen { λ _. ⌜ seen-all (now (self .exit)) ≡ seen-all (now (self .entry)) ⌝ }
-        ensures dues { λ _. ⌜ ((x : ℕ) → is-due (now (self .exit)) x ≡ cond (has x (now (list .entry))) (due waits) (is-due (now (self .entry)) x)) ⌝ }
+        ensures dues { λ _. ⌜ ((x : ℕ) → is-due (now (self .exit)) x ≡ cond (has x (now (list .entry))) due (is-due (now (self .entry)) x)) ⌝ }
         ensures len { λ _. ⌜ vec-len (now (self .exit) .entries) ≡ vec-len (now (self .entry) .entries) ⌝ }
         ensures cap { λ _. ⌜ vec-cap (now (self .exit) .entries) ≡ vec-cap (now (self .entry) .entries) ⌝ }
     {
         for v in list {
-            self.place(*v, waits);
+            self.mark(*v, due);
         }
     }
 }
@@ -84,8 +83,8 @@ impl Work {
     {
         list.clear();
         order.answer(net, self, lengths, list);
-        self.table.place_all(&self.waiting, Waits::Nowhere);
-        self.table.place_all(list, Waits::ForTurn);
+        self.table.mark_all(&self.waiting, false);
+        self.table.mark_all(list, true);
         self.waiting.clear();
         self.passes = self.passes.wrapping_add(1);
         self.take_turns(net, lengths, list);

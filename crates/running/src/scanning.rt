@@ -10,7 +10,6 @@ ghost use Rattle.running.specs.Network.{Wired, Roomy, trunks-of};
 ghost use Rattle.running.specs.Work.{run-of, Sound, Marked, Same-room};
 use super::Work;
 use super::network::Network;
-use super::table::Waits;
 use routing::Length;
 use routing::Verdict;
 
@@ -107,7 +106,7 @@ impl Work {
             if self.found_loop() {
                 return;
             }
-            self.table.place(*v, Waits::Nowhere);
+            self.table.mark(*v, false);
             self.scan(net, lengths, *v);
         }
     }

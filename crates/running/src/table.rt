@@ -4,35 +4,14 @@ ghost use Prim.Native.Nat.{ℕ, _<_};
 ghost use lib.ListN.{getD, set};
 ghost use Rattle.std.specs.Of.Vec.{vec-len, vec-cap};
 ghost use Rattle.routing.specs.Lists.{has};
-ghost use Rattle.running.specs.Table.{due, dues, seen-all, arrived, is-due};
+ghost use Rattle.running.specs.Table.{arrived, dues, is-due, seen-all};
 
-// Where an exchange waits: in the waiting list, or for its turn in this pass.
-#[derive(Clone, Copy)]
-pub enum Waits {
-    Nowhere,
-    Listed,
-    ForTurn,
-}
-
-// What a run knows of an exchange.
+// What a run knows of an exchange. `due`: it is in the waiting list, or its turn in this pass is to come.
 #[derive(Clone, Copy)]
 pub struct Entry {
     pub reached: bool,
     pub arriving: Option<u16>,
-    pub waits: Waits,
-}
-
-impl Entry {
-    // Whether the exchange waits or its turn is to come.
-    fn is_due(self) -> bool
-        ensures { λ r. ⌜ r ≡ due (self .waits) ⌝ }
-    {
-        match self.waits {
-            Waits::Nowhere => false,
-            Waits::Listed => true,
-            Waits::ForTurn => true,
-        }
-    }
+    pub due: bool,
 }
 
 // An entry for each exchange.
@@ -51,25 +30,23 @@ impl Table {
         ensures len { λ _. ⌜ vec-len (now (self .exit) .entries) ≡ vec-len (now (self .entry) .entries) ⌝ }
         ensures cap { λ _. ⌜ vec-cap (now (self .exit) .entries) ≡ vec-cap (now (self .entry) .entries) ⌝ }
     {
-        let old = self.entries[w as usize];
-        let joins = !old.is_due();
-        let waits = if joins { Waits::Listed } else { old.waits };
+        let joins = !self.entries[w as usize].due;
         self.entries[w as usize] = Entry {
             reached: true,
             arriving: Some(t),
-            waits,
+            due: true,
         };
         joins
     }
 
-    // `v` waits elsewhere now.
-    pub(crate) fn place(&mut self, v: u16, waits: Waits)
+    // `v` is due from now on, or not.
+    pub(crate) fn mark(&mut self, v: u16, due: bool)
         requires { ⌜ v < vec-len (now self .entries) ⌝ }
         ensures seen { λ _. ⌜ seen-all (now (self .exit)) ≡ seen-all (now (self .entry)) ⌝ }
-        ensures dues { λ _. ⌜ dues (now (self .exit)) ≡ set (dues (now (self .entry))) v (due waits) ⌝ }
+        ensures dues { λ _. ⌜ dues (now (self .exit)) ≡ set (dues (now (self .entry))) v due ⌝ }
         ensures len { λ _. ⌜ vec-len (now (self .exit) .entries) ≡ vec-len (now (self .entry) .entries) ⌝ }
         ensures cap { λ _. ⌜ vec-cap (now (self .exit) .entries) ≡ vec-cap (now (self .entry) .entries) ⌝ }
     {
-        self.entries[v as usize].waits = waits;
+        self.entries[v as usize].due = due;
     }
 }

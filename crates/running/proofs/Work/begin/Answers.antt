@@ -8,7 +8,7 @@ use Rattle.std.specs.Changed.{with-item}
 use Rattle.std.specs.Of.Vec.{vec-items}
 use Rattle.routing.specs.Rules.{unreached}
 use Rattle.running.specs.declared.table.Table.{Table}
-use Rattle.running.specs.Table.{due, seen, seen-all, dues}
+use Rattle.running.specs.Table.{seen, seen-all, dues}
 use Rattle.running.proofs.Homes.{home-entry, at-home, map-home, marks-home, holds-home, begun-is}
 use Rattle.running.proofs.Work.begin.Needs as need
 
@@ -18,7 +18,7 @@ returns g c =
     let home : ℕ = c .args .home in
     let table : Table = record { entries = with-item (c .refill .last .items) home home-entry } in
     let es : seen-all table ≡ set (replicate n unreached) home at-home = map-home seen n home (vec-items (c .refill .last .items)) (c .refill .ensures .items) in
-    let ds : dues table ≡ set (replicate n false) home true = map-home (λ e. due (e .waits)) n home (vec-items (c .refill .last .items)) (c .refill .ensures .items) in
+    let ds : dues table ≡ set (replicate n false) home true = map-home (λ e. e .due) n home (vec-items (c .refill .last .items)) (c .refill .ensures .items) in
     let ws : vec-items (c .push-reserved .last .self) ≡ home ∷ [] = c .push-reserved .ensures .items ∙ ap (λ xs. xs ++ (home ∷ [])) (c .clear .ensures .items) in
     record {
       sound = λ m. holds-home n home (c .pre .home .0) m table (c .push-reserved .last .self) (c .refill .ensures .len) es ds ws (omega (arith, c .push-reserved .ensures .capacity, c .clear .ensures .capacity, c .pre .room .1));

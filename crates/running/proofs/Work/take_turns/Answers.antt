@@ -18,8 +18,8 @@ returns-then-found-loop g c = record {
   does = turning-over (g .L·Length .kind) (c .args .net) (c .args .answered .now) (c .args .self .now) (c .args .lengths .now) (c .loop-v .v-index) (c .loop-v .self) (c .loop-v .lengths) (c .loop-v .inv) (sym (c .if-found-loop .ensures tt));
 }
 
-pub place-requires : need.place-requires
-place-requires g c κs =
+pub mark-requires : need.mark-requires
+mark-requires g c κs =
     let inside : getD (c .args .answered .now) (c .loop-v .v-index) 0 < c .args .net .n = c .pre .once .1 _ (has-at (c .args .answered .now) (c .loop-v .v-index) (c .loop-v-test .taken)) in
     omega (arith, c .loop-v .inv .sound .entries)
 
@@ -28,13 +28,13 @@ scan-requires g c κs = record {
   sizes = (c .pre .once .1 _ (has-at (c .args .answered .now) (c .loop-v .v-index) (c .loop-v-test .taken)), omega arith);
   wired = c .pre .wired;
   sound = placed-sound (g .L·Length .kind) (c .args .net) (c .args .answered .now) (c .args .self .now) (c .args .lengths .now) (c .loop-v .v-index) (c .loop-v .self) (c .loop-v .lengths) (c .loop-v .inv) (c .loop-v-test .taken) (c .pre .once .0)
-      (c .place .last .self) (c .place .ensures .seen) (c .place .ensures .dues) (c .place .ensures .len) (c .place .ensures .cap);
+      (c .mark .last .self) (c .mark .ensures .seen) (c .mark .ensures .dues) (c .mark .ensures .len) (c .mark .ensures .cap);
 }
 
 pub loop-v-again : need.loop-v-again
 loop-v-again g c =
     turning-on (g .L·Length .kind) (c .args .net) (c .args .answered .now) (c .args .self .now) (c .args .lengths .now) (c .loop-v .v-index) (c .loop-v .self) (c .loop-v .lengths) (c .loop-v .inv) (c .loop-v-test .taken) (c .pre .once .0)
-    (c .place .last .self) (c .place .ensures .seen) (c .place .ensures .dues) (c .place .ensures .len) (c .place .ensures .cap)
+    (c .mark .last .self) (c .mark .ensures .seen) (c .mark .ensures .dues) (c .mark .ensures .len) (c .mark .ensures .cap)
     (c .pre .once .1 _ (has-at (c .args .answered .now) (c .loop-v .v-index) (c .loop-v-test .taken))) (sym (c .if-found-loop .ensures tt)) (c .scan .last .self) (c .scan .last .lengths) (c .scan .ensures .sound) (c .scan .ensures .room) (c .scan .ensures .does)
 
 pub returns : need.returns
