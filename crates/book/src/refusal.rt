@@ -2,7 +2,7 @@ ghost use mathlib.Core.Path.{_≡_};
 ghost use Rattle.book.specs.Refusal.{number-of};
 
 // Why a call is refused. A refused call has changed nothing.
-#[derive(Clone, Copy, PartialEq, Eq, Debug)]
+#[derive(Clone, Copy, Debug)]
 pub enum Refusal {
     // The count of exchanges is 0 or over 256.
     BadSize = 1,
