@@ -1,5 +1,7 @@
 // The book of trunks: what it holds, and the calls that a client makes.
 // What the steps of a run ask is kept as the book's own invariant, so no call asks anything.
+#![tactic(auto)]
+
 ghost use Rattle.std.specs.Prelude.{◌≡◌, vec_len};
 ghost use Rattle.book.specs.Held.{Calm, Empty, Firsts, Indexed, Laid, Names, Nexts, Rests, Roomy, Seated, Spare, Tells};
 

@@ -1,4 +1,6 @@
 // Many books against another method.
+#![tactic(auto)]
+
 mod dice;
 mod networks;
 mod parts;

@@ -1,4 +1,6 @@
 // Makes the sheet of each example tape, and compares it with the sheet that is stored beside it.
+#![tactic(auto)]
+
 #[cfg(test)]
 mod tests;
 

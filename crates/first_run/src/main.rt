@@ -1,4 +1,6 @@
 // A tariff from beginning to end: laid, run in both orders, changed and run again, and once more as a list of calls.
+#![tactic(auto)]
+
 mod showing;
 mod stories;
 #[cfg(test)]

@@ -26,7 +26,7 @@ charge = record {
   value = λ c. c.mills;
   zero = pos 0;
   sum = ◌+ℤ◌;
-  not_above = le_z;
+  not_above = int_le;
   extent = charge_extent;
   laws = charge_laws;
   none = record { mills = pos 0 };

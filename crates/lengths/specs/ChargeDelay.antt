@@ -1,5 +1,5 @@
 -- A kind of length with a charge, counted in mills, and then a delay, counted in milliseconds.
-use Rattle.std.specs.Prelude.{ℕ, ◌+◌, ◌%◌, ◌^◌, ◌≤◌, ◌↔◌, ℤ, pos, ◌+ℤ◌, int_le, refl}
+use Rattle.std.specs.Prelude.{ℕ, ◌+◌, ◌%◌, ◌^◌, ◌≤◌, ◌↔◌, ℤ, pos, ◌+ℤ◌, int_le, nat_le, refl}
 use Rattle.std.proofs.Common.{arith, lit<}
 use Rattle.std.specs.Int.{int_wrap, w64}
 use Rattle.routing.specs.Kind.{Kind}
@@ -25,7 +25,7 @@ charge_delay = record {
   value = λ c. (c.mills, c.delay);
   zero = (pos 0, 0);
   sum = each ◌+ℤ◌ ◌+◌;
-  not_above = first_then int_le leb;
+  not_above = first_then int_le nat_le;
   extent = larger charge_extent delay_extent;
   laws = pairs charge_laws (delays.natural most_delay (lit< tt)) cancel_left cancel_right;
   none = record { mills = pos 0; delay = 0 };

@@ -1,4 +1,6 @@
 // Whole lists of calls, made on a new book through its own methods.
+#![tactic(auto)]
+
 pub mod calling;
 pub mod reading_out;
 pub mod replaying;

@@ -1,4 +1,6 @@
 // Prints the route sheet of the tape on standard input.
+#![tactic(auto)]
+
 use anyhow::anyhow;
 use printing::printed::NoMemory;
 use sheet::sheets::sheet_of;

@@ -1,4 +1,6 @@
 // A run, step by step, as routing's rules have it.
+#![tactic(auto)]
+
 pub mod beginning;
 pub mod looking;
 pub mod network;

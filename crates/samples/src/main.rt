@@ -1,4 +1,6 @@
 // Worked examples: proved together from the rules, and others run by the code.
+#![tactic(auto)]
+
 mod worked;
 
 use book::making::fit;

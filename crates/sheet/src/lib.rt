@@ -1,4 +1,6 @@
 // The route sheet of a tape.
+#![tactic(auto)]
+
 mod applying;
 pub mod sheets;
 mod telling;

@@ -1,4 +1,6 @@
 // The order tape: records that borrow its bytes, read and written for every kind of length.
+#![tactic(auto)]
+
 pub mod faults;
 pub mod fields;
 pub mod heads;

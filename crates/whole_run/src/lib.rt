@@ -1,4 +1,6 @@
 // A whole run of a book: begin, passes until the run is over, finish.
+#![tactic(auto)]
+
 pub mod running_out;
 
 use book::outcome::Ending;

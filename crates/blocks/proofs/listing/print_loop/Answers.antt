@@ -8,5 +8,5 @@ use Rattle.blocks.proofs.listing.print_loop.Goals as goal
 pub returns : goal.returns
 returns g c =
     let s = state_of c.args.book.now c.args.lengths.now in
-    c.in-ok-print-trunks.ensures
-    ∙ ap (λ (ts : List ℕ). string_bytes c.args.out.now ++ trunk_line ts) (loop_listed (readings.loop s 256) (replicate 256 0) c.loop-trunks.last.into c.loop-trunks.result c.unwrap-or-count.result c.loop-trunks.ensures.wrote c.unwrap-or-count.ensures)
+    c.in_ok-print_trunks.ensures
+    ∙ ap (λ (ts : List ℕ). string_bytes c.args.out.now ++ trunk_line ts) (loop_listed (readings.loop s 256) (replicate 256 0) c.loop_trunks.last.into c.loop_trunks.result c.unwrap_or-count.result c.loop_trunks.ensures.wrote c.unwrap_or-count.ensures)

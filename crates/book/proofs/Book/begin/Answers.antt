@@ -11,23 +11,23 @@ use Rattle.book.proofs.Keeps.{firsts_from, nexts_from, rests_from, tells_from, n
 use Rattle.book.proofs.RunCalls.{begun_so}
 use Rattle.book.proofs.Book.begin.Goals as goal
 
-pub returns-in-err-may-begin : goal.returns-in-err-may-begin
-returns-in-err-may-begin g c =
-    let p = err_from_is_err_and c.from-residual.result c.from-residual.ensures.1 in
+pub returns-in_err-may_begin : goal.returns-in_err-may_begin
+returns-in_err-may_begin g c =
+    let p = err_from_is_err_and c.from_residual.result c.from_residual.ensures.1 in
     rw (p.1, p.2) (record {
-      serves = refused_so g.L.Length.kind c.args.self.now c.args.lengths.now (begin c.args.home) (number_of c.in-err-may-begin.field-0.0) c.in-err-may-begin.ensures;
+      serves = refused_so g.L.Length.kind c.args.self.now c.args.lengths.now (begin c.args.home) (number_of c.in_err-may_begin.field-0.0) c.in_err-may_begin.ensures;
       ticket = tt;
       owed = tt;
       refused = λ _. refl;
     })
 
-pub invariant-of-self : goal.invariant-of-self
-invariant-of-self g c =
+pub invariant_of-self : goal.invariant_of-self
+invariant_of-self g c =
     let b = c.args.self.now in
     let home = c.args.home in
     let ix = c.build.new.self in
     let w = c.begin.new.self in
-    let ok = may_do g.L.Length.kind b c.args.lengths.now (begin home) (step (began home)) c.in-ok-may-begin.ensures refl in
+    let ok = may_do g.L.Length.kind b c.args.lengths.now (begin home) (step (began home)) c.in_ok-may_begin.ensures refl in
     let sound = c.begin.ensures.sound (vec_len b.trunks) in
     let room = c.begin.ensures.room in
     let caps = c.build.ensures.cap in
@@ -54,9 +54,9 @@ invariant-of-self g c =
 pub returns : goal.returns
 returns g c =
     let b = c.args.self.now in
-    let ok = may_do g.L.Length.kind b c.args.lengths.now (begin c.args.home) (step (began c.args.home)) c.in-ok-may-begin.ensures refl in
+    let ok = may_do g.L.Length.kind b c.args.lengths.now (begin c.args.home) (step (began c.args.home)) c.in_ok-may_begin.ensures refl in
     record {
-      serves = begun_so g.L.Length.kind c.args.self.now c.args.lengths.now c.args.home c.begin.new.self c.begin.new.lengths c.in-ok-may-begin.ensures c.begin.ensures.does;
+      serves = begun_so g.L.Length.kind c.args.self.now c.args.lengths.now c.args.home c.begin.new.self c.begin.new.lengths c.in_ok-may_begin.ensures c.begin.ensures.does;
       ticket = refl;
       owed = record { some = ok.0.0; few = ok.0.1; room = omega (arith, ok.0.2, b.trunks.ok.0); open_run = refl; bears = refl };
       refused = λ e. absurd (both_ways true e refl);

@@ -3,8 +3,8 @@ use Rattle.std.proofs.lemmas.List.{nil_from_length}
 use Rattle.book.proofs.Keeps.{whole_idle, rests_empty, tells_empty, names_calm}
 use Rattle.book.proofs.Book.new.Goals as goal
 
-pub invariant-of-result : goal.invariant-of-result
-invariant-of-result c =
+pub invariant_of-result : goal.invariant_of-result
+invariant_of-result c =
     let s = c.args.space in
     whole_idle c.args.n s.trunks s.index s.work s.list s.roomy s.spare
     (λ t l. absurd (omega (arith, s.empty.0)), λ t l. absurd (omega (arith, s.empty.0)), omega (arith, s.empty.0))

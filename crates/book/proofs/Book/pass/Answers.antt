@@ -12,11 +12,11 @@ use Rattle.book.proofs.Keeps.{wired_of, sound_of, marked_of, rests_from, tells_f
 use Rattle.book.proofs.RunCalls.{open_has_run, open_for_pass, no_loop_yet, room_for_pass, names_passed, pass_refused, passed_so}
 use Rattle.book.proofs.Book.pass.Goals as goal
 
-pub returns-in-err-may-pass : goal.returns-in-err-may-pass
-returns-in-err-may-pass g c =
-    let p = err_from_is_err_and c.from-residual.result c.from-residual.ensures.1 in
+pub returns-in_err-may_pass : goal.returns-in_err-may_pass
+returns-in_err-may_pass g c =
+    let p = err_from_is_err_and c.from_residual.result c.from_residual.ensures.1 in
     rw (p.1, p.2) (record {
-      serves = pass_refused g.L.Length.kind c.args.self.now c.args.lengths.now g.O.ScanOrder.answers c.args.ticket.now.number (number_of c.in-err-may-pass.field-0.0) c.in-err-may-pass.ensures;
+      serves = pass_refused g.L.Length.kind c.args.self.now c.args.lengths.now g.O.ScanOrder.answers c.args.ticket.now.number (number_of c.in_err-may_pass.field-0.0) c.in_err-may_pass.ensures;
       owed = λ t o. o;
       refused = λ _. refl;
     })
@@ -26,7 +26,7 @@ pass-requires g c =
     let K = g.L.Length.kind in
     let b = c.args.self.now in
     let k = c.args.ticket.now.number in
-    let none = c.in-ok-may-pass.ensures in
+    let none = c.in_ok-may_pass.ensures in
     let runs : has_run b.phase ≡ true = open_has_run b.phase (run_of b.work c.args.lengths.now) (open_for_pass K b c.args.lengths.now k none).0 in
     let few : b.n ≤ 256 = (b.seated runs).1 in
     let long : length c.deref.result.now ≡ vec_len b.trunks = c.deref.ensures.len in
@@ -39,11 +39,11 @@ pass-requires g c =
       marked = marked_of b.n b.work b.tells (no_loop_yet K b c.args.lengths.now k none);
     }
 
-pub invariant-of-self : goal.invariant-of-self
-invariant-of-self g c =
+pub invariant_of-self : goal.invariant_of-self
+invariant_of-self g c =
     let b = c.args.self.now in
     let w = c.pass.new.self in
-    let none = c.in-ok-may-pass.ensures in
+    let none = c.in_ok-may_pass.ensures in
     let runs : has_run b.phase ≡ true = open_has_run b.phase (run_of b.work c.args.lengths.now) (open_for_pass g.L.Length.kind b c.args.lengths.now c.args.ticket.now.number none).0 in
     let room = c.pass.ensures.room in
     let sound : SoundOver b.n (vec_len b.trunks) w = subst (λ (m : ℕ). SoundOver b.n m w) c.deref.ensures.len c.pass.ensures.sound in
@@ -66,7 +66,7 @@ pub returns : goal.returns
 returns g c =
     let b = c.args.self.now in
     record {
-      serves = passed_so g.L.Length.kind b c.args.lengths.now g.O.ScanOrder.answers c.args.ticket.now.number (vec_items c.pass.new.list) c.pass.new.self c.pass.new.lengths (shows c.progress.result) c.in-ok-may-pass.ensures
+      serves = passed_so g.L.Length.kind b c.args.lengths.now g.O.ScanOrder.answers c.args.ticket.now.number (vec_items c.pass.new.list) c.pass.new.self c.pass.new.lengths (shows c.progress.result) c.in_ok-may_pass.ensures
           (record { rule = rw c.deref.ensures.value at c.pass.ensures.rule.0; means = rw c.deref.ensures.value at c.pass.ensures.rule.1 })
           (subst (λ (ts : List Trunk). run_of c.pass.new.self c.pass.new.lengths ≡ passed g.L.Length.kind b.n ts (vec_items c.pass.new.list) (run_of b.work c.args.lengths.now)) c.deref.ensures.value c.pass.ensures.does) c.progress.ensures;
       owed = λ t o. record { some = o.some; few = o.few; room = o.room; open_run = o.open_run; bears = o.bears };

@@ -4,25 +4,25 @@ use Rattle.running.proofs.Tables.{read_seen}
 use Rattle.book.proofs.ReadCalls.{runs, below, net_wired, net_entries, net_arrivals, net_trail, route_denied, route_unreached, route_short, route_written}
 use Rattle.book.proofs.Book.route.Goals as goal
 
-pub returns-in-err-may-read : goal.returns-in-err-may-read
-returns-in-err-may-read g c =
-    let p = err_from_is_err_and c.from-residual.result c.from-residual.ensures.1 in
-    rw (p.1, p.2) (route_denied g.L.Length.kind c.args.self.now c.args.lengths.now c.args.x c.args.into.now c.in-err-may-read.field-0.0 c.in-err-may-read.ensures)
+pub returns-in_err-may_read : goal.returns-in_err-may_read
+returns-in_err-may_read g c =
+    let p = err_from_is_err_and c.from_residual.result c.from_residual.ensures.1 in
+    rw (p.1, p.2) (route_denied g.L.Length.kind c.args.self.now c.args.lengths.now c.args.x c.args.into.now c.in_err-may_read.field-0.0 c.in_err-may_read.ensures)
 
 pub returns-then-not-index : goal.returns-then-not-index
 returns-then-not-index g c =
     let K = g.L.Length.kind in
     let b = c.args.self.now in
-    let ok = c.in-ok-may-read.ensures in
+    let ok = c.in_ok-may_read.ensures in
     let inside : c.args.x < vec_len b.work.table.entries = omega (arith, below K b c.args.lengths.now c.args.x ok, (b.seated (runs K b c.args.lengths.now c.args.x ok)).2) in
     route_unreached K b c.args.lengths.now c.args.x c.args.into.now ok (ap (λ z. z.reached) (read_seen b.work.table c.args.x c.index.result.now inside c.index.ensures) ∙ c.if-not-index.true)
 
-pub trail-length-count-requires : goal.trail-length-count-requires
-trail-length-count-requires g c =
+pub trail_length-count-requires : goal.trail_length-count-requires
+trail_length-count-requires g c =
     let K = g.L.Length.kind in
     let b = c.args.self.now in
     let e = c.network-net.ensures in
-    let ok = c.in-ok-may-read.ensures in
+    let ok = c.in_ok-may_read.ensures in
     let going = runs K b c.args.lengths.now c.args.x ok in
     record {
       sizes = (omega (arith, e.0, below K b c.args.lengths.now c.args.x ok), net_entries K b c.args.lengths.now c.network-net.result e.0 e.1.0 e.1.1.0 e.1.1.1 going);
@@ -35,17 +35,17 @@ returns-then-into-count g c =
     let K = g.L.Length.kind in
     let b = c.args.self.now in
     let e = c.network-net.ensures in
-    let ok = c.in-ok-may-read.ensures in
+    let ok = c.in_ok-may_read.ensures in
     let inside : c.args.x < vec_len b.work.table.entries = omega (arith, below K b c.args.lengths.now c.args.x ok, (b.seated (runs K b c.args.lengths.now c.args.x ok)).2) in
-    route_short K b c.args.lengths.now c.args.x c.args.into.now ok (ap (λ z. z.reached) (read_seen b.work.table c.args.x c.index.result.now inside c.index.ensures) ∙ c.if-not-index.false) c.trail-length-count.result
-    (c.trail-length-count.ensures ∙ ap length (net_trail K b c.args.lengths.now c.network-net.result e.0 e.1.0 e.1.1.0 e.1.1.1 None c.args.x)) c.if-into-count.true
+    route_short K b c.args.lengths.now c.args.x c.args.into.now ok (ap (λ z. z.reached) (read_seen b.work.table c.args.x c.index.result.now inside c.index.ensures) ∙ c.if-not-index.false) c.trail_length-count.result
+    (c.trail_length-count.ensures ∙ ap length (net_trail K b c.args.lengths.now c.network-net.result e.0 e.1.0 e.1.1.0 e.1.1.1 None c.args.x)) c.if-into-count.true
 
-pub write-trail-requires : goal.write-trail-requires
-write-trail-requires g c =
+pub write_trail-requires : goal.write_trail-requires
+write_trail-requires g c =
     let K = g.L.Length.kind in
     let b = c.args.self.now in
     let e = c.network-net.ensures in
-    let ok = c.in-ok-may-read.ensures in
+    let ok = c.in_ok-may_read.ensures in
     let going = runs K b c.args.lengths.now c.args.x ok in
     record {
       sizes = (omega (arith, e.0, below K b c.args.lengths.now c.args.x ok), net_entries K b c.args.lengths.now c.network-net.result e.0 e.1.0 e.1.1.0 e.1.1.1 going);
@@ -59,9 +59,9 @@ returns g c =
     let K = g.L.Length.kind in
     let b = c.args.self.now in
     let e = c.network-net.ensures in
-    let ok = c.in-ok-may-read.ensures in
+    let ok = c.in_ok-may_read.ensures in
     let inside : c.args.x < vec_len b.work.table.entries = omega (arith, below K b c.args.lengths.now c.args.x ok, (b.seated (runs K b c.args.lengths.now c.args.x ok)).2) in
     let trails = net_trail K b c.args.lengths.now c.network-net.result e.0 e.1.0 e.1.1.0 e.1.1.1 None c.args.x in
-    route_written K b c.args.lengths.now c.args.x c.args.into.now ok (ap (λ z. z.reached) (read_seen b.work.table c.args.x c.index.result.now inside c.index.ensures) ∙ c.if-not-index.false) c.trail-length-count.result
-    (c.trail-length-count.ensures ∙ ap length trails) c.write-trail.new.into c.if-into-count.false
-    (c.write-trail.ensures None c.trail-length-count.ensures ∙ ap (λ us. us ++ drop c.trail-length-count.result c.args.into.now) trails)
+    route_written K b c.args.lengths.now c.args.x c.args.into.now ok (ap (λ z. z.reached) (read_seen b.work.table c.args.x c.index.result.now inside c.index.ensures) ∙ c.if-not-index.false) c.trail_length-count.result
+    (c.trail_length-count.ensures ∙ ap length trails) c.write_trail.new.into c.if-into-count.false
+    (c.write_trail.ensures None c.trail_length-count.ensures ∙ ap (λ us. us ++ drop c.trail_length-count.result c.args.into.now) trails)

@@ -17,4 +17,4 @@ returns c =
     let size = c.args.size in
     let limit = c.args.limit in
     let divided = quotient limit (size / limit) (size % limit) (mod_below size limit c.requires) in
-    c.div-ceil.ensures ∙ sym (rw (div-add-mod' size limit) at divided)
+    c.div_ceil.ensures ∙ sym (rw (div-add-mod' size limit) at divided)

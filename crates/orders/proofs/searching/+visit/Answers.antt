@@ -69,8 +69,8 @@ loop-at-preserved g t c =
       ],
     )
 
-pub push-reserved-requires : goal.push-reserved-requires
-push-reserved-requires g t c =
+pub push_reserved-requires : goal.push_reserved-requires
+push_reserved-requires g t c =
     let going = c.loop-at.invariant.2 in
     let one = unmarked_set c.args.marks.now c.args.v (omega arith) c.requires.fresh in
     omega (arith, going.counts, going.cap)
@@ -80,10 +80,10 @@ returns g t c =
     let going = c.loop-at.invariant.2 in
     let marked : c.args.v < length c.args.marks.now = omega arith in
     let one = unmarked_set c.args.marks.now c.args.v marked c.requires.fresh in
-    let none = front_none (rest (trunks_of c.args.net) c.args.v c.loop-at.invariant.0) (sym c.loop-at.invariant.1 ∙ c.in-default.is) in
+    let none = front_none (rest (trunks_of c.args.net) c.args.v c.loop-at.invariant.0) (sym c.loop-at.invariant.1 ∙ c.in_default.is) in
     record {
-      counts = (omega (arith, going.fewer), omega (arith, going.counts, c.push-reserved.ensures.len));
-      cap = c.push-reserved.ensures.capacity ∙ going.cap;
+      counts = (omega (arith, going.fewer), omega (arith, going.counts, c.push_reserved.ensures.len));
+      cap = c.push_reserved.ensures.capacity ∙ going.cap;
       does = visit_done g.L.Length.kind c.args.net (run_of c.args.work.now c.args.lengths.now) c.args.v c.args.marks.now c.args.list.now marked c.requires.fresh
-          c.loop-at.invariant.0 c.loop-at.marks c.loop-at.list going none (vec_items c.push-reserved.new.self) c.push-reserved.ensures.items;
+          c.loop-at.invariant.0 c.loop-at.marks c.loop-at.list going none (vec_items c.push_reserved.new.self) c.push_reserved.ensures.items;
     }

@@ -5,5 +5,5 @@ use Rattle.printing.proofs.lines.print_trunks.Goals as goal
 
 pub returns : goal.returns
 returns c =
-    two (string_bytes c.args.out.now) (spaced c.args.trunks.now) newline (string_bytes c.print-numbers.new.out) (string_bytes c.push-str.new.self)
-    c.in-ok-print-numbers.ensures c.in-ok-push-str.ensures.bytes
+    two (string_bytes c.args.out.now) (spaced c.args.trunks.now) newline (string_bytes c.print_numbers.new.out) (string_bytes c.push_str.new.self)
+    c.in_ok-print_numbers.ensures c.in_ok-push_str.ensures.bytes

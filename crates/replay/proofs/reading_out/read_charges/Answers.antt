@@ -5,10 +5,10 @@ use Rattle.book.specs.Refusal.{number_of}
 use Rattle.book.specs.State.{state_of}
 use Rattle.replay.proofs.Fillings.{filled_none, filled_set, filled_skip}
 use Rattle.replay.proofs.reading_out.read_charges.Goals as goal
-use Rattle.replay.proofs.reading_out.read_charges.Goals.{in-Ok, in-default}
+use Rattle.replay.proofs.reading_out.read_charges.Goals.{in-Ok, in_default}
 
-pub offset-bounds-charges-x : goal.offset-bounds-charges-x
-offset-bounds-charges-x g c = let h : c.loop-x.x < length c.args.charges.now = omega arith in search rules
+pub offset_bounds-charges-x : goal.offset_bounds-charges-x
+offset_bounds-charges-x g c = let h : c.loop-x.x < length c.args.charges.now = omega arith in search rules
 
 pub loop-x-preserved : goal.loop-x-preserved
 loop-x-preserved g c =
@@ -16,5 +16,5 @@ loop-x-preserved g c =
     let inside : c.loop-x.x < length c.loop-x.charges = omega (arith, c.loop-x.invariant.long) in
     elim c.match-charge.branch [
       | in-Ok w ↦ rw w.charges-is (filled_set f c.args.charges.now c.loop-x.x c.loop-x.charges w.in-Ok.charge c.loop-x.invariant inside (sym (ap reading_of w.in-Ok.is) ∙ c.charge.ensures.is))
-      | in-default w ↦ rw w.charges-is (filled_skip f c.args.charges.now c.loop-x.x (number_of w.in-default.field-0) c.loop-x.charges c.loop-x.invariant (sym (ap reading_of w.in-default.is) ∙ c.charge.ensures.is))
+      | in_default w ↦ rw w.charges-is (filled_skip f c.args.charges.now c.loop-x.x (number_of w.in_default.field-0) c.loop-x.charges c.loop-x.invariant (sym (ap reading_of w.in_default.is) ∙ c.charge.ensures.is))
     ]

@@ -9,15 +9,15 @@ use Rattle.replay.proofs.reading_out.read_out.Goals as goal
 
 pub returns-in-Ok : goal.returns-in-Ok
 returns-in-Ok g c =
-    let w = wrote_ok c.in-Ok.count c.in-Ok.is c.loop-trunks.ensures.wrote in
+    let w = wrote_ok c.in-Ok.count c.in-Ok.is c.loop_trunks.ensures.wrote in
     ReadsOut.a_loop {cs = w.0} w.1 (ap (λ (k : ℕ). Loop k) w.2) w.3 refl refl
 
 pub returns-in-RunIsSettled : goal.returns-in-RunIsSettled
 returns-in-RunIsSettled g c =
-    let w = wrote_err c.in-Err.refusal c.in-Err.is c.loop-trunks.ensures.wrote in
-    ReadsOut.a_sheet (w.0 ∙ ap (λ (k : Refusal). denied (number_of k)) c.in-RunIsSettled.is) refl w.1 c.read-charges.ensures c.read-arrivals.ensures
+    let w = wrote_err c.in-Err.refusal c.in-Err.is c.loop_trunks.ensures.wrote in
+    ReadsOut.a_sheet (w.0 ∙ ap (λ (k : Refusal). denied (number_of k)) c.in-RunIsSettled.is) refl w.1 c.read_charges.ensures c.read_arrivals.ensures
 
-pub returns-in-default : goal.returns-in-default
-returns-in-default g c =
-    let w = wrote_err c.in-Err.refusal c.in-Err.is c.loop-trunks.ensures.wrote in
-    ReadsOut.nothing {k = number_of c.in-Err.refusal} w.0 (settled_only c.in-Err.refusal c.in-default.not-RunIsSettled) refl w.1 refl refl
+pub returns-in_default : goal.returns-in_default
+returns-in_default g c =
+    let w = wrote_err c.in-Err.refusal c.in-Err.is c.loop_trunks.ensures.wrote in
+    ReadsOut.nothing {k = number_of c.in-Err.refusal} w.0 (settled_only c.in-Err.refusal c.in_default.not-RunIsSettled) refl w.1 refl refl

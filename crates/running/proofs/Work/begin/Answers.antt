@@ -13,10 +13,10 @@ returns g c =
     let table : Table = record { entries = with_item c.refill.new.items home home_entry } in
     let es : seen_all table ≡ set (replicate n unreached) home at_home = map_home seen n home (vec_items c.refill.new.items) c.refill.ensures.items in
     let ds : dues table ≡ set (replicate n false) home true = map_home (λ e. e.due) n home (vec_items c.refill.new.items) c.refill.ensures.items in
-    let ws : vec_items c.push-reserved.new.self ≡ home ∷ [] = c.push-reserved.ensures.items ∙ ap (λ xs. xs ++ (home ∷ [])) c.clear.ensures.items in
+    let ws : vec_items c.push_reserved.new.self ≡ home ∷ [] = c.push_reserved.ensures.items ∙ ap (λ xs. xs ++ (home ∷ [])) c.clear.ensures.items in
     record {
-      sound = λ m. holds_home n home c.requires.home.0 m table c.push-reserved.new.self c.refill.ensures.len es ds ws (omega (arith, c.push-reserved.ensures.capacity, c.clear.ensures.capacity, c.requires.room.1));
+      sound = λ m. holds_home n home c.requires.home.0 m table c.push_reserved.new.self c.refill.ensures.len es ds ws (omega (arith, c.push_reserved.ensures.capacity, c.clear.ensures.capacity, c.requires.room.1));
       marked = rw (ds, ws) (marks_home n home c.requires.home.0);
-      room = (c.refill.ensures.cap, c.push-reserved.ensures.capacity ∙ c.clear.ensures.capacity);
-      does = begun_is g.L.Length.kind n home c.args.lengths.now c.zero.result (seen_all table) (vec_items c.push-reserved.new.self) c.zero.ensures es ws;
+      room = (c.refill.ensures.cap, c.push_reserved.ensures.capacity ∙ c.clear.ensures.capacity);
+      does = begun_is g.L.Length.kind n home c.args.lengths.now c.zero.result (seen_all table) (vec_items c.push_reserved.new.self) c.zero.ensures es ws;
     }

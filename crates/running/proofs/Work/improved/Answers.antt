@@ -15,8 +15,8 @@ returns-then-not-index g c =
     (sum_read g.L.Length.kind c.args.lengths.now c.args.v (c.args.net.n + c.args.t) c.index-lengths-v.result c.index-lengths-net.result c.add-sum.result (omega arith) (omega arith) c.index-lengths-v.is c.index-lengths-net.is c.add-sum.ensures)
     (ap (λ z. z.reached) (read_seen c.args.self.now.table w c.index.result.now inside c.index.ensures) ∙ c.if-not-index.true)
 
-pub returns-then-not-above : goal.returns-then-not-above
-returns-then-not-above g c =
+pub returns-then-not_above : goal.returns-then-not_above
+returns-then-not_above g c =
     let w : ℕ = (trunk (trunks_of c.args.net) c.args.t).to in
     let head : w < c.args.net.n = c.requires.wired.ends.to c.args.t c.requires.sizes.1.0 in
     let inside : w < vec_len c.args.self.now.table.entries = omega (arith, c.requires.sound.entries) in
@@ -24,4 +24,4 @@ returns-then-not-above g c =
     (sum_read g.L.Length.kind c.args.lengths.now c.args.v (c.args.net.n + c.args.t) c.index-lengths-v.result c.index-lengths-net.result c.add-sum.result (omega arith) (omega arith) c.index-lengths-v.is c.index-lengths-net.is c.add-sum.ensures)
     (get_or_read c.args.lengths.now w c.index-lengths-w.result (omega arith) c.index-lengths-w.is _)
     (ap (λ z. z.reached) (read_seen c.args.self.now.table w c.index.result.now inside c.index.ensures) ∙ c.if-not-index.false)
-    (sym c.if-not-above.ensures)
+    (sym c.if-not_above.ensures)

@@ -5,8 +5,8 @@ use Rattle.running.proofs.Scans.{Going, going_jump}
 use Rattle.running.proofs.Indexes.{Fronted, front_some, falls_on, next_on, at_most}
 use Rattle.running.proofs.Work.scan.Goals as goal
 
-pub try-trunk-requires : goal.try-trunk-requires
-try-trunk-requires g c =
+pub try_trunk-requires : goal.try_trunk-requires
+try_trunk-requires g c =
     let f : Fronted (trunks_of c.args.net) c.args.v c.loop-at.invariant.0 c.in-Some.t = front_some (trunks_of c.args.net) c.args.v c.loop-at.invariant.0 c.in-Some.t (sym c.loop-at.invariant.1 ∙ c.in-Some.is) in
     record { sizes = (c.requires.sizes.0, (f.below, omega arith)); wired = c.requires.wired; sound = c.loop-at.invariant.2.sound }
 
@@ -29,5 +29,5 @@ loop-at-preserved g c =
       t + 1,
       next_on c.args.net.n (trunks_of c.args.net) c.args.net.first.now c.args.net.next.now c.args.v c.loop-at.invariant.0 t c.requires.wired.chained f,
       going_jump g.L.Length.kind c.args.net c.args.v _ c.args.lengths.now c.loop-at.invariant.0 c.loop-at.self c.loop-at.lengths c.loop-at.invariant.2 t f.split
-          c.try-trunk.new.self c.try-trunk.new.lengths (sym c.if-found-loop.ensures) c.try-trunk.ensures.sound c.try-trunk.ensures.room c.try-trunk.ensures.does,
+          c.try_trunk.new.self c.try_trunk.new.lengths (sym c.if-found_loop.ensures) c.try_trunk.ensures.sound c.try_trunk.ensures.room c.try_trunk.ensures.does,
     )

@@ -7,8 +7,8 @@ use Rattle.running.proofs.Moves.{room_left}
 use Rattle.running.proofs.Steps.{head_inside, joins_sound, joins_marked, joins_waiting, stays_sound, stays_marked, stays_waiting, moved_run}
 use Rattle.running.proofs.Work.try_trunk.Goals as goal
 
-pub push-reserved-requires : goal.push-reserved-requires
-push-reserved-requires g c =
+pub push_reserved-requires : goal.push_reserved-requires
+push_reserved-requires g c =
     let head : ℕ = (trunk (trunks_of c.args.net) c.args.t).to in
     let free : is_due c.args.self.now.table head ≡ false = not-true (is_due c.args.self.now.table head) (sym c.if-arrive.ensures.joins) in
     room_left c.args.net.n (length (trunks_of c.args.net)) c.args.self.now.table c.args.self.now.waiting c.requires.sound head (head_inside c.args.net c.args.self.now c.args.t c.requires.sound c.requires.wired c.requires.sizes.1.0) free
@@ -19,15 +19,15 @@ returns-then-arrive g c =
     let e = c.arrive.ensures in
     let free : is_due c.args.self.now.table head ≡ false = not-true (is_due c.args.self.now.table head) (sym c.if-arrive.ensures.joins) in
     let known = c.requires.sizes.1.0 in
-    let ws = c.push-reserved.new.self in
-    let items = c.push-reserved.ensures.items in
+    let ws = c.push_reserved.new.self in
+    let items = c.push_reserved.ensures.items in
     record {
-      sound = joins_sound c.args.net c.args.self.now c.args.t c.requires.sound c.requires.wired known c.arrive.new.self e.seen e.dues e.len ws items free c.push-reserved.ensures.capacity;
-      room = (e.cap, c.push-reserved.ensures.capacity);
+      sound = joins_sound c.args.net c.args.self.now c.args.t c.requires.sound c.requires.wired known c.arrive.new.self e.seen e.dues e.len ws items free c.push_reserved.ensures.capacity;
+      room = (e.cap, c.push_reserved.ensures.capacity);
       does = λ later h. (
         joins_marked c.args.net c.args.self.now c.args.t c.requires.sound c.requires.wired known c.arrive.new.self e.seen e.dues e.len ws items free later h,
         moved_run c.args.net c.args.self.now c.args.t c.requires.sound c.requires.wired known c.arrive.new.self e.seen e.dues e.len g.L.Length.kind c.args.lengths.now c.args.v c.in-Some.sum (vec_items ws) later
-            c.in-Some.ensures (sym c.if-met-on-the-way-back.ensures)
+            c.in-Some.ensures (sym c.if-met_on_the_way_back.ensures)
             (joins_waiting c.args.net c.args.self.now c.args.t c.requires.sound c.requires.wired known c.arrive.new.self e.seen e.dues e.len ws items free later h),
       );
     }
@@ -44,7 +44,7 @@ returns-else-arrive g c =
       does = λ later h. (
         stays_marked c.args.net c.args.self.now c.args.t c.requires.sound c.requires.wired known c.arrive.new.self e.seen e.dues e.len busy later h,
         moved_run c.args.net c.args.self.now c.args.t c.requires.sound c.requires.wired known c.arrive.new.self e.seen e.dues e.len g.L.Length.kind c.args.lengths.now c.args.v c.in-Some.sum (vec_items c.args.self.now.waiting) later
-            c.in-Some.ensures (sym c.if-met-on-the-way-back.ensures)
+            c.in-Some.ensures (sym c.if-met_on_the_way_back.ensures)
             (stays_waiting c.args.net c.args.self.now c.args.t c.requires.sound c.requires.wired known c.arrive.new.self e.seen e.dues e.len busy later h),
       );
     }

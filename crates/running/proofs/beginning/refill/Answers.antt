@@ -4,7 +4,7 @@ use Rattle.running.proofs.beginning.refill.Goals as goal
 
 pub loop-preserved : goal.loop-preserved
 loop-preserved g c = (
-  c.push-reserved.ensures.items ∙ ap (λ xs. xs ++ (c.args.x ∷ [])) c.loop.invariant.0 ∙ replicate_more c.loop.counter c.args.x,
-  omega (arith, c.push-reserved.ensures.len, c.loop.invariant.1),
-  c.push-reserved.ensures.capacity ∙ c.loop.invariant.2,
+  c.push_reserved.ensures.items ∙ ap (λ xs. xs ++ (c.args.x ∷ [])) c.loop.invariant.0 ∙ replicate_more c.loop.counter c.args.x,
+  omega (arith, c.push_reserved.ensures.len, c.loop.invariant.1),
+  c.push_reserved.ensures.capacity ∙ c.loop.invariant.2,
 )

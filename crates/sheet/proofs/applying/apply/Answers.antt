@@ -23,7 +23,7 @@ returns-in-Lay g c = λ number n first h to.
     let b = c.in-Lay.to in
     let l = c.in-Lay.length.now in
     said_as F number n first h s s' (item_of c.args.item) (lay a b l) c.changed.result (changed_of c.lay.result) (ap item_of c.in-Lay.is) c.changed.ensures
-    (lay_so F number n first R h s to s' a b l c.lay.result (subst (λ y. Does K R s (lay-call a b y) (answer_by (λ t. numbered t) c.lay.result) s') c.from-tape.ensures c.lay.ensures.serves.does))
+    (lay_so F number n first R h s to s' a b l c.lay.result (subst (λ y. Does K R s (lay-call a b y) (answer_by (λ t. numbered t) c.lay.result) s') c.from_tape.ensures c.lay.ensures.serves.does))
 
 pub returns-in-Reprice : goal.returns-in-Reprice
 returns-in-Reprice g c = λ number n first h to.
@@ -35,7 +35,7 @@ returns-in-Reprice g c = λ number n first h to.
     let t = c.in-Reprice.trunk in
     let l = c.in-Reprice.length.now in
     said_as F number n first h s s' (item_of c.args.item) (reprice t l) c.changed-in-Reprice.result (changed_of c.reprice.result) (ap item_of c.in-Reprice.is) c.changed-in-Reprice.ensures
-    (reprice_so F number n first R h s to s' t l c.reprice.result (subst (λ y. Does K R s (reprice-call t y) (answer_by (λ _. done) c.reprice.result) s') c.from-tape-in-Reprice.ensures c.reprice.ensures.serves.does))
+    (reprice_so F number n first R h s to s' t l c.reprice.result (subst (λ y. Does K R s (reprice-call t y) (answer_by (λ _. done) c.reprice.result) s') c.from_tape-in-Reprice.ensures c.reprice.ensures.serves.does))
 
 pub returns-in-Bar-switch : goal.returns-in-Bar-switch
 returns-in-Bar-switch g c = λ number n first h to.
@@ -64,7 +64,7 @@ returns-in-Home g c = λ number n first h to.
     let K = g.L.Length.kind in
     let F = form_of K g.L.Length.octets g.L.TapeLength.meant g.L.Printed.printed in
     let s = state_of c.args.book.now c.args.lengths.now in
-    let s' = state_of c.run-home.new.book c.run-home.new.lengths in
+    let s' = state_of c.run_home.new.book c.run_home.new.lengths in
     let x = c.in-Home.home in
-    said_as F number n first h s s' (item_of c.args.item) (home x) c.ran.result (ran_of x c.run-home.result) (ap item_of c.in-Home.is) c.ran.ensures
-    (home_so F number n first h s to x c.run-home.result s' c.run-home.ensures.homes)
+    said_as F number n first h s s' (item_of c.args.item) (home x) c.ran.result (ran_of x c.run_home.result) (ap item_of c.in-Home.is) c.ran.ensures
+    (home_so F number n first h s to x c.run_home.result s' c.run_home.ensures.homes)

@@ -5,9 +5,9 @@ use Rattle.sheet.proofs.sheets.places.Goals as goal
 pub loop-preserved : goal.loop-preserved
 loop-preserved g c =
     let none = g.L.Length.kind.none in (
-      c.push-reserved.ensures.items ∙ ap (λ x. vec_items c.loop.lengths ++ (x ∷ [])) c.zero.ensures ∙ ap (λ xs. xs ++ (none ∷ [])) c.loop.invariant.0 ∙ replicate_more c.loop.counter none,
-      omega (arith, c.push-reserved.ensures.len, c.loop.invariant.1),
-      omega (arith, c.push-reserved.ensures.capacity, c.loop.invariant.2),
+      c.push_reserved.ensures.items ∙ ap (λ x. vec_items c.loop.lengths ++ (x ∷ [])) c.zero.ensures ∙ ap (λ xs. xs ++ (none ∷ [])) c.loop.invariant.0 ∙ replicate_more c.loop.counter none,
+      omega (arith, c.push_reserved.ensures.len, c.loop.invariant.1),
+      omega (arith, c.push_reserved.ensures.capacity, c.loop.invariant.2),
     )
 
 pub returns : goal.returns

@@ -25,11 +25,11 @@ returns-in-Err g c =
     let whole = told_from F (length tape) tape 4 s₀ [] in
     let before = string_bytes c.args.out.now in
     let s = state_of c.loop-at.book c.loop-at.lengths in
-    let s' = state_of c.take-record.new.book c.take-record.new.lengths in
+    let s' = state_of c.take_record.new.book c.take_record.new.lengths in
     let at = c.loop-at.at in
     let inv = c.loop-at.invariant in
-    tells_fault_at F 0 n first tape whole before s s' (string_bytes c.loop-at.out) (string_bytes c.print-fault-at.new.out) at inv c.in-Err.fault c.loop-at-test.true
-    (c.in-Err.ensures 0 n first inv.changes inv.made) c.in-ok-print-fault-at.ensures
+    tells_fault_at F 0 n first tape whole before s s' (string_bytes c.loop-at.out) (string_bytes c.print_fault_at.new.out) at inv c.in-Err.fault c.loop-at-test.true
+    (c.in-Err.ensures 0 n first inv.changes inv.made) c.in_ok-print_fault_at.ensures
 
 pub loop-at-smaller : goal.loop-at-smaller
 loop-at-smaller g c =
@@ -41,11 +41,11 @@ loop-at-smaller g c =
     let whole = told_from F (length tape) tape 4 s₀ [] in
     let before = string_bytes c.args.out.now in
     let s = state_of c.loop-at.book c.loop-at.lengths in
-    let s' = state_of c.take-record.new.book c.take-record.new.lengths in
+    let s' = state_of c.take_record.new.book c.take_record.new.lengths in
     let at = c.loop-at.at in
     let inv = c.loop-at.invariant in
-    let m = tells_more F 0 n first tape whole before s s' (string_bytes c.loop-at.out) (string_bytes c.print-effect.new.out) at inv c.in-Ok.effect c.in-Ok.end c.loop-at-test.true
-    (c.in-Ok.ensures 0 n first inv.changes inv.made) c.in-ok-print-effect.ensures in
+    let m = tells_more F 0 n first tape whole before s s' (string_bytes c.loop-at.out) (string_bytes c.print_effect.new.out) at inv c.in-Ok.effect c.in-Ok.end c.loop-at-test.true
+    (c.in-Ok.ensures 0 n first inv.changes inv.made) c.in_ok-print_effect.ensures in
     omega (arith, m.1, c.loop-at-test.true)
 
 pub loop-at-preserved : goal.loop-at-preserved
@@ -58,11 +58,11 @@ loop-at-preserved g c =
     let whole = told_from F (length tape) tape 4 s₀ [] in
     let before = string_bytes c.args.out.now in
     let s = state_of c.loop-at.book c.loop-at.lengths in
-    let s' = state_of c.take-record.new.book c.take-record.new.lengths in
+    let s' = state_of c.take_record.new.book c.take_record.new.lengths in
     let at = c.loop-at.at in
     let inv = c.loop-at.invariant in
-    let m = tells_more F 0 n first tape whole before s s' (string_bytes c.loop-at.out) (string_bytes c.print-effect.new.out) at inv c.in-Ok.effect c.in-Ok.end c.loop-at-test.true
-    (c.in-Ok.ensures 0 n first inv.changes inv.made) c.in-ok-print-effect.ensures in
+    let m = tells_more F 0 n first tape whole before s s' (string_bytes c.loop-at.out) (string_bytes c.print_effect.new.out) at inv c.in-Ok.effect c.in-Ok.end c.loop-at-test.true
+    (c.in-Ok.ensures 0 n first inv.changes inv.made) c.in_ok-print_effect.ensures in
     m.0
 
 pub returns : goal.returns

@@ -5,4 +5,4 @@ use Rattle.tape.proofs.fields.write_bytes.Goals as goal
 pub returns : goal.returns
 returns c =
     let n : c.args.at + length c.args.bytes.now - c.args.at ≡ length c.args.bytes.now = omega arith in
-    part_written c.args.into.now c.copy-from-slice.new.self c.args.bytes.now c.args.at _ c.copy-from-slice.ensures.after n
+    part_written c.args.into.now c.copy_from_slice.new.self c.args.bytes.now c.args.at _ c.copy_from_slice.ensures.after n

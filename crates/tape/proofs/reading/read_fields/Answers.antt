@@ -8,55 +8,55 @@ use Rattle.tape.proofs.FormatLaws.{lay_room, reprice_room, bar_room, home_room, 
 use Rattle.tape.proofs.RecordLaws.{state_legal}
 use Rattle.tape.proofs.reading.read_fields.Goals as goal
 
-pub read-pair-requires : goal.read-pair-requires
-read-pair-requires g c = omega (arith, lay_room _ _ _ c.requires.map c.requires.whole (ap map_of c.in-Lay.is))
+pub read_pair-requires : goal.read_pair-requires
+read_pair-requires g c = omega (arith, lay_room _ _ _ c.requires.map c.requires.whole (ap map_of c.in-Lay.is))
 
-pub read-pair-requires-in-Lay : goal.read-pair-requires-in-Lay
-read-pair-requires-in-Lay g c = omega (arith, lay_room _ _ _ c.requires.map c.requires.whole (ap map_of c.in-Lay.is))
+pub read_pair-requires-in-Lay : goal.read_pair-requires-in-Lay
+read_pair-requires-in-Lay g c = omega (arith, lay_room _ _ _ c.requires.map c.requires.whole (ap map_of c.in-Lay.is))
 
-pub length-at-requires : goal.length-at-requires
-length-at-requires g c = lay_room _ _ _ c.requires.map c.requires.whole (ap map_of c.in-Lay.is)
+pub length_at-requires : goal.length_at-requires
+length_at-requires g c = lay_room _ _ _ c.requires.map c.requires.whole (ap map_of c.in-Lay.is)
 
-pub read-pair-requires-in-Reprice : goal.read-pair-requires-in-Reprice
-read-pair-requires-in-Reprice g c = omega (arith, reprice_room _ _ _ c.requires.map c.requires.whole (ap map_of c.in-Reprice.is))
+pub read_pair-requires-in-Reprice : goal.read_pair-requires-in-Reprice
+read_pair-requires-in-Reprice g c = omega (arith, reprice_room _ _ _ c.requires.map c.requires.whole (ap map_of c.in-Reprice.is))
 
-pub length-at-requires-in-Reprice : goal.length-at-requires-in-Reprice
-length-at-requires-in-Reprice g c = reprice_room _ _ _ c.requires.map c.requires.whole (ap map_of c.in-Reprice.is)
+pub length_at-requires-in-Reprice : goal.length_at-requires-in-Reprice
+length_at-requires-in-Reprice g c = reprice_room _ _ _ c.requires.map c.requires.whole (ap map_of c.in-Reprice.is)
 
-pub read-pair-requires-in-Bar : goal.read-pair-requires-in-Bar
-read-pair-requires-in-Bar g c = omega (arith, bar_room _ _ _ c.requires.map c.requires.whole (ap map_of c.in-Bar.is))
+pub read_pair-requires-in-Bar : goal.read_pair-requires-in-Bar
+read_pair-requires-in-Bar g c = omega (arith, bar_room _ _ _ c.requires.map c.requires.whole (ap map_of c.in-Bar.is))
 
-pub read-pair-requires-in-Bar-2 : goal.read-pair-requires-in-Bar-2
-read-pair-requires-in-Bar-2 g c = bar_room _ _ _ c.requires.map c.requires.whole (ap map_of c.in-Bar.is)
+pub read_pair-requires-in-Bar-2 : goal.read_pair-requires-in-Bar-2
+read_pair-requires-in-Bar-2 g c = bar_room _ _ _ c.requires.map c.requires.whole (ap map_of c.in-Bar.is)
 
-pub read-pair-requires-in-Home : goal.read-pair-requires-in-Home
-read-pair-requires-in-Home g c = home_room _ _ _ c.requires.map c.requires.whole (ap map_of c.in-Home.is)
+pub read_pair-requires-in-Home : goal.read_pair-requires-in-Home
+read_pair-requires-in-Home g c = home_room _ _ _ c.requires.map c.requires.whole (ap map_of c.in-Home.is)
 
 pub returns-in-Lay : goal.returns-in-Lay
 returns-in-Lay g c =
-    let f = lay_read _ _ _ c.requires.map c.requires.whole _ _ _ (ap map_of c.in-Lay.is) c.read-pair.ensures c.read-pair-in-Lay.ensures c.length-at.ensures in
+    let f = lay_read _ _ _ c.requires.map c.requires.whole _ _ _ (ap map_of c.in-Lay.is) c.read_pair.ensures c.read_pair-in-Lay.ensures c.length_at.ensures in
     record { reads = (f.item, refl); same = f.same }
 
 pub returns-in-Reprice : goal.returns-in-Reprice
 returns-in-Reprice g c =
-    let f = reprice_read _ _ _ c.requires.map c.requires.whole _ _ (ap map_of c.in-Reprice.is) c.read-pair-in-Reprice.ensures c.length-at-in-Reprice.ensures in
+    let f = reprice_read _ _ _ c.requires.map c.requires.whole _ _ (ap map_of c.in-Reprice.is) c.read_pair-in-Reprice.ensures c.length_at-in-Reprice.ensures in
     record { reads = (f.item, refl); same = f.same }
 
-pub returns-in-err-switch-of : goal.returns-in-err-switch-of
-returns-in-err-switch-of g c =
-    let p = err_from_is_err_and c.from-residual.result c.from-residual.ensures.1 in
-    let h = c.in-err-switch-of.ensures in
-    let f = bar_read _ _ _ c.requires.map c.requires.whole _ _ (ap map_of c.in-Bar.is) c.read-pair-in-Bar.ensures c.read-pair-in-Bar-2.ensures in
+pub returns-in_err-switch_of : goal.returns-in_err-switch_of
+returns-in_err-switch_of g c =
+    let p = err_from_is_err_and c.from_residual.result c.from_residual.ensures.1 in
+    let h = c.in_err-switch_of.ensures in
+    let f = bar_read _ _ _ c.requires.map c.requires.whole _ _ (ap map_of c.in-Bar.is) c.read_pair-in-Bar.ensures c.read_pair-in-Bar-2.ensures in
     rw p.1 (record { reads = (p.2 ∙ h.0, sym (ap legal_state f.item) ∙ le-ltb _ 2 h.1); same = tt })
 
-pub returns-in-ok-switch-of : goal.returns-in-ok-switch-of
-returns-in-ok-switch-of g c =
-    let h = c.in-ok-switch-of.ensures in
-    let q : Pair c.args.bytes.now 3 (state_of c.in-ok-switch-of.field-0) = rw h at c.read-pair-in-Bar-2.ensures in
-    let f = bar_read _ _ _ c.requires.map c.requires.whole _ _ (ap map_of c.in-Bar.is) c.read-pair-in-Bar.ensures q in
-    record { reads = (f.item, state_legal c.in-ok-switch-of.field-0); same = f.same }
+pub returns-in_ok-switch_of : goal.returns-in_ok-switch_of
+returns-in_ok-switch_of g c =
+    let h = c.in_ok-switch_of.ensures in
+    let q : Pair c.args.bytes.now 3 (state_of c.in_ok-switch_of.field-0) = rw h at c.read_pair-in-Bar-2.ensures in
+    let f = bar_read _ _ _ c.requires.map c.requires.whole _ _ (ap map_of c.in-Bar.is) c.read_pair-in-Bar.ensures q in
+    record { reads = (f.item, state_legal c.in_ok-switch_of.field-0); same = f.same }
 
 pub returns-in-Home : goal.returns-in-Home
 returns-in-Home g c =
-    let f = home_read _ _ _ c.requires.map c.requires.whole _ (ap map_of c.in-Home.is) c.read-pair-in-Home.ensures in
+    let f = home_read _ _ _ c.requires.map c.requires.whole _ (ap map_of c.in-Home.is) c.read_pair-in-Home.ensures in
     record { reads = (f.item, refl); same = f.same }

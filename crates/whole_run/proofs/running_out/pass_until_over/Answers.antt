@@ -22,11 +22,11 @@ loop-preserved g c =
     let does = c.pass.ensures.serves.does in (
       subst (λ (k : ℕ). Owed t c.pass.new.self k) c.loop.auto.lengths (c.pass.ensures.owed t (owed_here K answers n size b ls t inv.1 c.loop.auto.lengths inv.0)),
       same_then K answers n size b ls t inv.1 c.loop.auto.lengths inv.0 (answer_by shows c.pass.result) s' does,
-      on K answers n size b ls t inv.1 c.loop.auto.lengths inv.0 (state_of c.args.book.now c.args.lengths.now) c.loop.counter inv.2 s' c.pass.result (sym c.goes-on.ensures ∙ c.if-not-goes-on.false) does,
+      on K answers n size b ls t inv.1 c.loop.auto.lengths inv.0 (state_of c.args.book.now c.args.lengths.now) c.loop.counter inv.2 s' c.pass.result (sym c.goes_on.ensures ∙ c.if-not-goes_on.false) does,
     )
 
-pub returns-then-not-goes-on : goal.returns-then-not-goes-on
-returns-then-not-goes-on g c =
+pub returns-then-not-goes_on : goal.returns-then-not-goes_on
+returns-then-not-goes_on g c =
     let K = g.L.Length.kind in
     let answers = g.O.ScanOrder.answers in
     let b = c.loop.book in
@@ -39,7 +39,7 @@ returns-then-not-goes-on g c =
     let few : c.loop.counter < 256 = omega arith in
     record {
       owed = subst (λ (k : ℕ). Owed t c.pass.new.self k) c.loop.auto.lengths (c.pass.ensures.owed t (owed_here K answers n size b ls t inv.1 c.loop.auto.lengths inv.0));
-      passes = out K answers n size b ls t inv.1 c.loop.auto.lengths inv.0 (state_of c.args.book.now c.args.lengths.now) c.loop.counter inv.2 s' c.pass.result (sym c.goes-on.ensures ∙ c.if-not-goes-on.true) c.pass.ensures.serves.does few;
+      passes = out K answers n size b ls t inv.1 c.loop.auto.lengths inv.0 (state_of c.args.book.now c.args.lengths.now) c.loop.counter inv.2 s' c.pass.result (sym c.goes_on.ensures ∙ c.if-not-goes_on.true) c.pass.ensures.serves.does few;
     }
 
 pub returns : goal.returns

@@ -7,8 +7,8 @@ use Rattle.running.proofs.Moves.{few_wait}
 use Rattle.orders.proofs.Shown.{shown}
 use Rattle.orders.proofs.queue_order.QueueScanOrder.answer.Goals as goal
 
-pub push-reserved-requires : goal.push-reserved-requires
-push-reserved-requires g c =
+pub push_reserved-requires : goal.push_reserved-requires
+push_reserved-requires g c =
     let ws : List ℕ = vec_items c.args.work.now.waiting in
     let few : length ws ≤ c.args.net.n = few_wait c.args.net.n (length (trunks_of c.args.net)) c.args.work.now.table c.args.work.now.waiting c.requires.sound in
     let here : c.loop-v.v-index < length ws = rw c.deref-v-items.ensures.value at c.loop-v-test.true in
@@ -18,10 +18,10 @@ push-reserved-requires g c =
 pub loop-v-preserved : goal.loop-v-preserved
 loop-v-preserved g c =
     let ws : List ℕ = vec_items c.args.work.now.waiting in
-    let items = rw c.deref-v-items.ensures.value at c.push-reserved.ensures.items in
+    let items = rw c.deref-v-items.ensures.value at c.push_reserved.ensures.items in
     let here : c.loop-v.v-index < length ws = rw c.deref-v-items.ensures.value at c.loop-v-test.true in (
       items ∙ ap (λ xs. xs ++ (get_or ws c.loop-v.v-index 0 ∷ [])) c.loop-v.invariant.0 ∙ sym (take_more ws c.loop-v.v-index 0 here),
-      c.push-reserved.ensures.capacity ∙ c.loop-v.invariant.1,
+      c.push_reserved.ensures.capacity ∙ c.loop-v.invariant.1,
     )
 
 pub returns : goal.returns

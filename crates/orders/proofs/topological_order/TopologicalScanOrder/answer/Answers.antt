@@ -9,7 +9,7 @@ use Rattle.orders.proofs.Shown.{shown}
 use Rattle.orders.proofs.Searches.{no_marks, taking_start, next_inside, taking_skip, taking_visit, taking_end}
 use Rattle.orders.proofs.topological_order.TopologicalScanOrder.answer.Given as given
 use Rattle.orders.proofs.topological_order.TopologicalScanOrder.answer.Goals as goal
-use Rattle.orders.proofs.topological_order.TopologicalScanOrder.answer.Goals.{In-Some, else-not-marks-v-via-then-not-marks-v+else-has-improving, else-not-marks-v-via-else-not-marks-v}
+use Rattle.orders.proofs.topological_order.TopologicalScanOrder.answer.Goals.{In-Some, else-not-marks-v-via-then-not-marks-v+else-has_improving, else-not-marks-v-via-else-not-marks-v}
 
 inside : (g : given.Over) (c : In-Some g) → c.in-Some.v.now < c.args.net.n
 inside g c =
@@ -21,8 +21,8 @@ sized g c = c.loop-v.auto.marks ∙ ap length (no_marks c.args.net.n c.requires.
 
 pub loop-v-init : goal.loop-v-init
 loop-v-init g c =
-    let all : iter_rest (rev_source c.into-iter-v-iterator.result) ≡ vec_items c.args.work.now.waiting =
-    ap (λ s. iter_rest (rev_source s)) c.into-iter-v-iterator.ensures.into-iter-gives ∙ ap iter_rest c.rev-v-items.ensures.source ∙ c.iter.ensures.rest ∙ c.deref.ensures.value in (
+    let all : iter_rest (rev_source c.into_iter-v-iterator.result) ≡ vec_items c.args.work.now.waiting =
+    ap (λ s. iter_rest (rev_source s)) c.into_iter-v-iterator.ensures.into_iter-gives ∙ ap iter_rest c.rev-v-items.ensures.source ∙ c.iter.ensures.rest ∙ c.deref.ensures.value in (
       tt,
       tt,
       rw all (taking_start g.L.Length.kind c.args.net c.args.work.now c.args.lengths.now c.args.list.now _ c.requires.room.0 (no_marks c.args.net.n c.requires.wired.0.few)),
@@ -31,8 +31,8 @@ loop-v-init g c =
 pub bounds-marks-v : goal.bounds-marks-v
 bounds-marks-v g c = let at = (goal.at.bounds-marks-v g c).In-Some in omega (arith, inside g at, sized g at)
 
-pub has-improving-requires : goal.has-improving-requires
-has-improving-requires g c = record { sizes = (inside g (goal.at.has-improving-requires g c).In-Some, c.requires.wired.1); wired = c.requires.wired.0; sound = c.requires.sound }
+pub has_improving-requires : goal.has_improving-requires
+has_improving-requires g c = record { sizes = (inside g (goal.at.has_improving-requires g c).In-Some, c.requires.wired.1); wired = c.requires.wired.0; sound = c.requires.sound }
 
 pub visit-requires : goal.visit-requires
 visit-requires g c =
@@ -46,12 +46,12 @@ visit-requires g c =
       room = omega (arith, before.counts, before.cap, c.requires.room.1);
     }
 
-pub loop-v-preserved-then-has-improving : goal.loop-v-preserved-then-has-improving
-loop-v-preserved-then-has-improving g c = (
+pub loop-v-preserved-then-has_improving : goal.loop-v-preserved-then-has_improving
+loop-v-preserved-then-has_improving g c = (
   tt,
   tt,
   taking_visit g.L.Length.kind c.args.net c.args.work.now c.args.lengths.now c.args.list.now (iter_rest (rev_source c.loop-v.v-iterator)) c.loop-v.marks c.loop-v.list c.loop-v.invariant.2
-      c.in-Some.v.now (iter_rest (rev_source c.next.new.self)) c.in-Some.ensures.steps (inside g (goal.at.loop-v-preserved-then-has-improving g c).In-Some) c.if-not-marks-v.true (sym c.if-has-improving.ensures)
+      c.in-Some.v.now (iter_rest (rev_source c.next.new.self)) c.in-Some.ensures.steps (inside g (goal.at.loop-v-preserved-then-has_improving g c).In-Some) c.if-not-marks-v.true (sym c.if-has_improving.ensures)
       c.visit.new.marks c.visit.new.list c.visit.ensures.counts.0 c.visit.ensures.counts.1 c.visit.ensures.cap c.visit.ensures.does,
 )
 
@@ -62,7 +62,7 @@ loop-v-preserved g c =
       tt,
       tt,
       elim c.else-not-marks-v.branch [
-        | else-not-marks-v-via-then-not-marks-v+else-has-improving w ↦ skips (inr (sym w.if-has-improving.ensures))
+        | else-not-marks-v-via-then-not-marks-v+else-has_improving w ↦ skips (inr (sym w.if-has_improving.ensures))
         | else-not-marks-v-via-else-not-marks-v w ↦ skips (inl w.if-not-marks-v.false)
       ],
     )

@@ -8,9 +8,9 @@ use Rattle.running.proofs.Tables.{read_seen}
 use Rattle.running.proofs.Trailing.{trail_stop, trail_none, trail_on}
 use Rattle.running.proofs.table.Table.trail_length.Goals as goal
 
-pub returns-then-stops-at : goal.returns-then-stops-at
-returns-then-stops-at c =
-    let none = ap length (trail_stop (trunks_of c.args.net) (seen_all c.args.self.now) c.args.stop (c.args.net.n - c.loop-count.count) c.loop-count.at (sym c.if-stops-at.ensures)) in
+pub returns-then-stops_at : goal.returns-then-stops_at
+returns-then-stops_at c =
+    let none = ap length (trail_stop (trunks_of c.args.net) (seen_all c.args.self.now) c.args.stop (c.args.net.n - c.loop-count.count) c.loop-count.at (sym c.if-stops_at.ensures)) in
     omega (arith, c.loop-count.invariant.1)
 
 pub returns-in-None : goal.returns-in-None
@@ -32,7 +32,7 @@ loop-count-preserved c =
     let goes : (get_or (seen_all c.args.self.now) c.loop-count.at unreached).arriving ≡ Some c.in-Some.t =
     ap (λ z. z.arriving) (read_seen c.args.self.now c.loop-count.at c.index.result.now inside c.index.ensures) ∙ c.in-Some.is in
     let from = (trunk (trunks_of c.args.net) c.in-Some.t).from in
-    let one_more = ap length (trail_on (trunks_of c.args.net) (seen_all c.args.self.now) c.args.stop c.args.net.n c.loop-count.count c.loop-count.at c.in-Some.t c.loop-count-test.true (sym c.if-stops-at.ensures) goes)
+    let one_more = ap length (trail_on (trunks_of c.args.net) (seen_all c.args.self.now) c.args.stop c.args.net.n c.loop-count.count c.loop-count.at c.in-Some.t c.loop-count-test.true (sym c.if-stops_at.ensures) goes)
     ∙ length_push (trail (c.args.net.n - (c.loop-count.count + 1)) (trunks_of c.args.net) (seen_all c.args.self.now) c.args.stop from) c.in-Some.t in (
       c.requires.wired.ends.from c.in-Some.t (c.requires.arrivals c.loop-count.at c.in-Some.t goes),
       omega (arith, c.loop-count.invariant.1),

@@ -36,7 +36,7 @@ pub loop-i-preserved : goal.loop-i-preserved
 loop-i-preserved c =
     let inside : c.loop-i.at < vec_len c.args.self.now.entries = omega (arith, c.requires.sizes.1, c.loop-i.invariant.0) in
     let ends : (get_or (seen_all c.args.self.now) c.loop-i.at unreached).arriving ≡ None =
-    ap (λ z. z.arriving) (read_seen c.args.self.now c.loop-i.at c.index.result.now inside c.index.ensures) ∙ c.in-default.is in
+    ap (λ z. z.arriving) (read_seen c.args.self.now c.loop-i.at c.index.result.now inside c.index.ensures) ∙ c.in_default.is in
     let i : ℕ = c.loop-i.i - 1 in
     let next : c.loop-i.i ≡ i + 1 = omega arith in (
       c.loop-i.invariant.0,
