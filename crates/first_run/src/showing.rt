@@ -4,7 +4,6 @@ use book::refusal::Refusal;
 use lengths::charge::Charge;
 use replay::{Answer, Read};
 use std::io;
-use whole_run::Ended;
 
 // What a call came to, where it answers nothing but that it is done.
 pub fn show_done(rt: &impl Print, what: &str, res: Result<(), Refusal>) -> io::Result<()> {
@@ -80,19 +79,19 @@ pub fn show_run(
     what: &str,
     book: &Book,
     lengths: &[Charge],
-    ended: Result<Ended, Refusal>,
+    ending: Result<Option<Ending>, Refusal>,
 ) -> io::Result<()> {
-    match ended {
-        Ok(Ended::Finished(Ending::Settled { passes, scans })) => {
+    match ending {
+        Ok(Some(Ending::Settled { passes, scans })) => {
             println!(rt; "{what}: settled, passes {passes}, scans {scans}")?;
             show_charges(rt, book, lengths)?;
             show_route(rt, book, lengths)
         }
-        Ok(Ended::Finished(Ending::Loop { passes, scans })) => {
+        Ok(Some(Ending::Loop { passes, scans })) => {
             println!(rt; "{what}: loop, passes {passes}, scans {scans}")?;
             show_loop(rt, book, lengths)
         }
-        Ok(Ended::GivenUp) => println!(rt; "{what}: given up"),
+        Ok(None) => println!(rt; "{what}: abandoned"),
         Err(refusal) => show_refusal(rt, what, refusal),
     }
 }

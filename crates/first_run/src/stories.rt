@@ -4,15 +4,16 @@ ghost use Rattle.replay.specs.Making.{Bears};
 
 use super::PLACES;
 use super::showing::{show_answers, show_done, show_read, show_refusal, show_run};
-use book::refusal::Refused;
+use book::outcome::{Ending, Progress};
+use book::refusal::{Refusal, Refused};
 use book::{Book, Space, Ticket};
 use lengths::charge::Charge;
 use orders::queue_order::Queue;
 use orders::topological_order::Topological;
 use replay::replaying::replay;
 use replay::{Answer, Call, Read, Replayed};
+use running::passing::ScanOrder;
 use std::io;
-use whole_run::running_out::run_whole;
 
 // The example: from, to and charge of each trunk.
 const TRUNKS: [(u16, u16, i32); 5] = [(0, 2, 7), (0, 1, 4), (1, 2, -2), (2, 3, 3), (3, 1, 0)];
@@ -37,33 +38,55 @@ fn give_back(book: &mut Book, lengths: &[Charge], ticket: Ticket)
     }
 }
 
+// Runs from exchange 0 until the run is over, with a pass for each exchange at most, and finishes.
+fn run<O: ScanOrder<Charge>>(
+    book: &mut Book,
+    lengths: &mut [Charge],
+    order: &O,
+) -> Result<Option<Ending>, Refusal> {
+    let ticket = book.begin(lengths, 0)?;
+    for _ in 0..4 {
+        match book.pass(lengths, order, &ticket) {
+            Ok(Progress::Working { .. }) => {}
+            _ => break,
+        }
+    }
+    match book.finish(lengths, ticket) {
+        Ok(ending) => Ok(Some(ending)),
+        Err(Refused { refusal: _, back }) => {
+            give_back(book, lengths, back);
+            Ok(None)
+        }
+    }
+}
+
 pub fn both_orders(rt: &impl Print, book: &mut Book, lengths: &mut [Charge]) -> io::Result<()> {
-    let ended = run_whole(book, lengths, &Topological, 0);
-    show_run(rt, "topological order", book, lengths, ended)?;
-    let ended = run_whole(book, lengths, &Queue, 0);
-    show_run(rt, "queue order", book, lengths, ended)
+    let ending = run(book, lengths, &Topological);
+    show_run(rt, "topological order", book, lengths, ending)?;
+    let ending = run(book, lengths, &Queue);
+    show_run(rt, "queue order", book, lengths, ending)
 }
 
 // Trunk 1 is barred, made cheaper and opened again; then trunk 4 is given too large a credit.
 pub fn changes(rt: &impl Print, book: &mut Book, lengths: &mut [Charge]) -> io::Result<()> {
     show_done(rt, "trunk 1 barred", book.bar(lengths, 1))?;
-    let ended = run_whole(book, lengths, &Topological, 0);
-    show_run(rt, "without it", book, lengths, ended)?;
+    let ending = run(book, lengths, &Topological);
+    show_run(rt, "without it", book, lengths, ending)?;
     show_done(
         rt,
         "trunk 1 at -3",
         book.reprice(lengths, 1, Charge::of(-3)),
     )?;
     show_done(rt, "trunk 1 opened", book.unbar(lengths, 1))?;
-    let ended = run_whole(book, lengths, &Topological, 0);
-    show_run(rt, "with it", book, lengths, ended)?;
+    let ending = run(book, lengths, &Topological);
+    show_run(rt, "with it", book, lengths, ending)?;
     show_done(
         rt,
         "trunk 4 at -2",
         book.reprice(lengths, 4, Charge::of(-2)),
     )?;
-    let ended = run_whole(book, lengths, &Topological, 0);
-    show_run(rt, "then", book, lengths, ended)?;
+    let ending = run(book, lengths, &Topological);
+    show_run(rt, "then", book, lengths, ending)?;
     show_done(rt, "trunk 9 barred", book.bar(lengths, 9))
 }
 

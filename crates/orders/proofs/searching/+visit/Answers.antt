@@ -37,7 +37,7 @@ follows-requires g t c =
     record { sizes = (c.requires.sizes.0, ((here g t (goal.at.follows-requires g t c).In-Some).known, c.requires.sizes.1.0)); wired = c.requires.wired; sound = c.requires.sound }
 
 pub visit-requires : goal.visit-requires
-visit-requires g t c κs within =
+visit-requires g t c within =
     let at = (goal.at.visit-requires g t c).In-Some in
     let one = unmarked_set c.args.marks.now c.args.v (omega arith) c.requires.fresh in
     let going = c.loop-at.invariant.2 in

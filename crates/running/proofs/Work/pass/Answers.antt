@@ -11,13 +11,13 @@ use Rattle.running.proofs.Begins.{reached_below, marks_begun, holds_begun, run_b
 use Rattle.running.proofs.Work.pass.Goals as goal
 
 pub mark_all-requires : goal.mark_all-requires
-mark_all-requires g c κs x h =
+mark_all-requires g c x h =
     let waits : has x (vec_items c.args.self.now.waiting) ≡ true = rw c.deref.ensures.value at h in
     let l = due_inside c.args.net.n (length (trunks_of c.args.net)) c.args.self.now.table c.args.self.now.waiting c.requires.sound x (c.requires.sound.waits x waits) in
     omega (arith, c.requires.sound.entries)
 
 pub mark_all-requires-2 : goal.mark_all-requires-2
-mark_all-requires-2 g c κs x h =
+mark_all-requires-2 g c x h =
     let answered : has x (vec_items c.answer.new.list) ≡ true = rw c.deref-2.ensures.value at h in
     let l = reached_below (seen_all c.args.self.now.table) x (c.answer.ensures.meaning.are_reached x answered) in
     omega (arith, c.args.self.now.table.entries.ok.0, length-map (vec_items c.args.self.now.table.entries) seen, c.mark_all.ensures.len)
