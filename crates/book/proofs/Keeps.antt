@@ -22,25 +22,34 @@ use Rattle.book.specs.Held.{has_run, once, same, in_run, Roomy, Spare, Laid, Sea
 -- all that a book holds
 abbrev pub Whole : Phase → ℕ → Vec Trunk Global → Index → Work → Vec ℕ Global → Type 0
 Whole p n ts ix w list =
-    Roomy ts ix w
-    × (Spare w list × (Laid n ts × (Seated p n w × (Indexed p n ts ix × (Firsts p n ts ix × (Nexts p ts ix × (Rests (vec_len ts) w × (Tells n w × (Names n ts w × Unit {0})))))))))
+    record {
+      roomy : Roomy ts ix w;
+      spare : Spare w list;
+      laid : Laid n ts;
+      seated : Seated p n w;
+      indexed : Indexed p n ts ix;
+      firsts : Firsts p n ts ix;
+      nexts : Nexts p ts ix;
+      rests : Rests (vec_len ts) w;
+      tells : Tells n w;
+      names : Names n ts w;
+    }
 
 -- with no run nothing is asked of the index and the entries
 pub whole_idle : (n : ℕ) (ts : Vec Trunk Global) (ix : Index) (w : Work) (list : Vec ℕ Global)
     → Roomy ts ix w → Spare w list → Laid n ts → Rests (vec_len ts) w → Tells n w → Names n ts w → Whole Idle n ts ix w list
-whole_idle n ts ix w list roomy spare laid rests tells names = (
-  roomy,
-  (
-    spare,
-    (
-      laid,
-      (
-        (λ e. absurd (both_ways false refl e)),
-        ((λ e. absurd (both_ways false refl e)), ((λ v l. absurd (omega arith)), ((λ t l. absurd (omega arith)), (rests, (tells, (names, tt)))))),
-      ),
-    ),
-  ),
-)
+whole_idle n ts ix w list roomy spare laid rests tells names = record {
+  roomy = roomy;
+  spare = spare;
+  laid = laid;
+  seated = λ e. absurd (both_ways false refl e);
+  indexed = λ e. absurd (both_ways false refl e);
+  firsts = λ v l. absurd (omega arith);
+  nexts = λ t l. absurd (omega arith);
+  rests = rests;
+  tells = tells;
+  names = names;
+}
 
 -- a work with no entry and none who waits
 module _ (w : Work) (entries : vec_len w.table.entries ≡ 0) (waiting : vec_len w.waiting ≡ 0) where

@@ -48,19 +48,19 @@ invariant_of-self g c =
     let room = c.pass.ensures.room in
     let sound : SoundOver b.n (vec_len b.trunks) w = subst (λ (m : ℕ). SoundOver b.n m w) c.deref.ensures.len c.pass.ensures.sound in
     let names : Names b.n b.trunks w =
-    names_passed g.L.Length.kind b c.args.lengths.now runs c.deref.result.now c.deref.ensures.value (vec_items c.pass.new.list) w c.pass.new.lengths c.pass.ensures.rule.1 c.pass.ensures.does in (
-      (b.roomy.0, b.roomy.1, b.roomy.2, omega (arith, room.1.0, b.roomy.3)),
-      (
-        (omega (arith, room.1.1, b.spare.0), omega (arith, room.0, b.spare.1)),
-        (
-          b.laid,
-          (
-            (λ e. ((b.seated runs).0, (b.seated runs).1, sound.entries)),
-            (b.indexed, (b.firsts, (b.nexts, (rests_from b.n (vec_len b.trunks) w sound, (tells_from b.n w c.pass.ensures.marked, (names, tt)))))),
-          ),
-        ),
-      ),
-    )
+    names_passed g.L.Length.kind b c.args.lengths.now runs c.deref.result.now c.deref.ensures.value (vec_items c.pass.new.list) w c.pass.new.lengths c.pass.ensures.rule.1 c.pass.ensures.does in
+    record {
+      roomy = (b.roomy.0, b.roomy.1, b.roomy.2, omega (arith, room.1.0, b.roomy.3));
+      spare = (omega (arith, room.1.1, b.spare.0), omega (arith, room.0, b.spare.1));
+      laid = b.laid;
+      seated = λ e. ((b.seated runs).0, (b.seated runs).1, sound.entries);
+      indexed = b.indexed;
+      firsts = b.firsts;
+      nexts = b.nexts;
+      rests = rests_from b.n (vec_len b.trunks) w sound;
+      tells = tells_from b.n w c.pass.ensures.marked;
+      names = names;
+    }
 
 pub returns : goal.returns
 returns g c =
