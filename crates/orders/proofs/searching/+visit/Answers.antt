@@ -27,7 +27,8 @@ loop-at-init g t c = (
 )
 
 pub bounds-net-t : goal.bounds-net-t
-bounds-net-t g t c = (here g t c).known
+bounds-net-t g t c =
+    (walked c.args.net c.args.v c.loop-at.invariant.0 c.in-Some.t c.loop-at.at c.requires.wired c.loop-at.invariant.1 c.in-Some.is).known
 
 pub bounds-marks-w : goal.bounds-marks-w
 bounds-marks-w g t c = let at = (goal.at.bounds-marks-w g t c).In-Some in omega (arith, inside g t at, sized g t at)
@@ -37,11 +38,11 @@ follows-requires g t c =
     record { sizes = (c.requires.sizes.0, ((here g t (goal.at.follows-requires g t c).In-Some).known, c.requires.sizes.1.0)); wired = c.requires.wired; sound = c.requires.sound }
 
 pub visit-requires : goal.visit-requires
-visit-requires g t c within =
+visit-requires g t c κs within =
     let at = (goal.at.visit-requires g t c).In-Some in
     let one = unmarked_set c.args.marks.now c.args.v (omega arith) c.requires.fresh in
     let going = c.loop-at.invariant.2 in
-    (omega (arith, c.decreases, going.fewer), (within, (inside g t at, (c.requires.sizes.1.0, (sized g t at, (c.requires.wired, (c.requires.sound, (c.if-not-marks-w.true, omega (arith, going.counts, going.cap)))))))))
+    (omega (arith, c.decreases, going.fewer), (within, ((inside g t at, (c.requires.sizes.1.0, sized g t at)), (c.requires.wired, (c.requires.sound, (c.if-not-marks-w.true, omega (arith, going.counts, going.cap)))))))
 
 pub bounds-net-t-in-Some : goal.bounds-net-t-in-Some
 bounds-net-t-in-Some g t c = (here g t (goal.at.bounds-net-t-in-Some g t c).In-Some).indexed

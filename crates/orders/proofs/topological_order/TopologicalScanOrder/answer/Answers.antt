@@ -22,7 +22,7 @@ sized g c = c.loop-v.auto.marks ∙ ap length (no_marks c.args.net.n c.requires.
 pub loop-v-init : goal.loop-v-init
 loop-v-init g c =
     let all : iter_rest (rev_source c.into_iter-v-iterator.result) ≡ vec_items c.args.work.now.waiting =
-    ap (λ s. iter_rest (rev_source s)) c.into_iter-v-iterator.ensures.into_iter-gives ∙ ap iter_rest c.rev-v-items.ensures.source ∙ c.iter.ensures.rest ∙ c.deref.ensures.value in (
+    ap (λ s. iter_rest (rev_source s)) c.into_iter-v-iterator.ensures.into_iter_gives ∙ ap iter_rest c.rev-v-items.ensures.source ∙ c.iter.ensures.rest ∙ c.deref.ensures.value in (
       tt,
       tt,
       rw all (taking_start g.L.Length.kind c.args.net c.args.work.now c.args.lengths.now c.args.list.now _ c.requires.room.0 (no_marks c.args.net.n c.requires.wired.0.few)),
