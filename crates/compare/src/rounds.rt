@@ -43,7 +43,7 @@ fn put(sums: &mut [Option<Parts>], x: u16, sum: Parts) {
 }
 
 // Rounds until nothing falls; as many as there are exchanges, and one more, are enough unless sums fall without end.
-pub fn least<L: Plain>(
+pub fn least_sums<L: Plain>(
     heap: Global,
     n: u16,
     home: u16,

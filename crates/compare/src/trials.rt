@@ -1,7 +1,7 @@
 use super::dice::Dice;
 use super::networks::{Link, Shape, links};
 use super::parts::{Parts, Plain};
-use super::rounds::{Least, least};
+use super::rounds::{Least, least_sums};
 use book::outcome::Ending;
 use book::refusal::Refusal;
 use book::{Book, Space};

@@ -29,7 +29,7 @@ returns-in-Err g c =
     let at = c.loop-at.at in
     let inv = c.loop-at.invariant in
     tells_fault_at F 0 n first tape whole before s s' (string_bytes c.loop-at.out) (string_bytes c.print_fault_at.new.out) at inv c.in-Err.fault c.loop-at-test.true
-    (c.in-Err.ensures 0 n first inv.changes inv.made) c.in_ok-print_fault_at.ensures
+    (c.in-Err.ensures 0 n first inv.changes inv.made) c.in_ok-print_fault_at-in-Err.ensures
 
 pub loop-at-smaller : goal.loop-at-smaller
 loop-at-smaller g c =
@@ -45,7 +45,7 @@ loop-at-smaller g c =
     let at = c.loop-at.at in
     let inv = c.loop-at.invariant in
     let m = tells_more F 0 n first tape whole before s s' (string_bytes c.loop-at.out) (string_bytes c.print_effect.new.out) at inv c.in-Ok.effect c.in-Ok.end c.loop-at-test.true
-    (c.in-Ok.ensures 0 n first inv.changes inv.made) c.in_ok-print_effect.ensures in
+    (c.in-Ok.ensures 0 n first inv.changes inv.made) c.in_ok-print_effect-in-Ok.ensures in
     omega (arith, m.1, c.loop-at-test.true)
 
 pub loop-at-preserved : goal.loop-at-preserved
@@ -62,7 +62,7 @@ loop-at-preserved g c =
     let at = c.loop-at.at in
     let inv = c.loop-at.invariant in
     let m = tells_more F 0 n first tape whole before s s' (string_bytes c.loop-at.out) (string_bytes c.print_effect.new.out) at inv c.in-Ok.effect c.in-Ok.end c.loop-at-test.true
-    (c.in-Ok.ensures 0 n first inv.changes inv.made) c.in_ok-print_effect.ensures in
+    (c.in-Ok.ensures 0 n first inv.changes inv.made) c.in_ok-print_effect-in-Ok.ensures in
     m.0
 
 pub returns : goal.returns
