@@ -1,10 +1,9 @@
 -- What the calls promise, from the checks that they made and the fields that they wrote.
-use Rattle.std.proofs.Common.{◌≡◌, ℕ, ◌+◌, ◌<◌, Bool, true, false, List, [], ◌∷◌, ◌++◌, length, get_or, set, Some, None, vec_items, vec_len, Vec, sym, refl, ap, ◌∙◌, arith}
+use Rattle.std.proofs.Common.{◌≡◌, ℕ, ◌+◌, ◌<◌, Bool, true, false, List, [], ◌∷◌, ◌++◌, length, get_or, set, Some, None, vec_items, vec_len, sym, refl, ap, ◌∙◌, arith}
 use Rattle.std.proofs.lemmas.List.{get_or_read}
-use Rattle.std.specs.declared.alloc.Global.{Global}
 use Rattle.routing.specs.declared.Trunk.{Trunk}
 use Rattle.routing.specs.Kind.{Kind}
-use Rattle.routing.specs.Rules.{Run, trunk, no_trunk}
+use Rattle.routing.specs.Rules.{Run, no_trunk}
 use Rattle.routing.specs.Orders.{Meaning}
 use Rattle.routing.specs.History.{State, Event, edit, laid, repriced, barred, unbarred, idle, bar_to}
 use Rattle.routing.specs.Calls.{Call, lay, reprice, bar, unbar, refused, numbered, done, refusals, refusal, Becomes}

@@ -1,5 +1,5 @@
 -- From what a book holds to what the steps ask, and back.
-use Rattle.std.proofs.Common.{◌≡◌, ℕ, ◌+◌, ◌<◌, ◌≤◌, Bool, true, false, not, ◌&&◌, ◌||◌, eqb, ltb, ◌⊎◌, List, [], ◌∷◌, ◌++◌, length, get_or, set, Some, None, vec_items, vec_len, vec_capacity, Option, Vec, sym, refl, ap, ◌∙◌, subst, inl, inr, ⊎_elim, arith, Bor}
+use Rattle.std.proofs.Common.{◌≡◌, ℕ, ◌+◌, ◌<◌, ◌≤◌, Bool, true, false, not, ◌||◌, ltb, List, [], ◌∷◌, ◌++◌, length, Some, None, vec_items, vec_len, Option, Vec, sym, refl, ap, ◌∙◌, subst, ⊎_elim, arith, Bor}
 use Rattle.std.proofs.lemmas.List.{get_or_append_left, get_or_push, nil_from_length}
 use Rattle.std.proofs.lemmas.Bool.{and_parts, and_from, not-true, not_from_false, both_ways, cases_lt, eqb-true, eq-eqb, ltb-true, lt-ltb}
 use Rattle.std.specs.declared.alloc.Global.{Global}
@@ -7,13 +7,11 @@ use Rattle.routing.specs.declared.Trunk.{Trunk}
 use Rattle.routing.specs.declared.Verdict.{Verdict}
 use Rattle.routing.specs.declared.Verdict.TheVariants.{Working, Settled, Looped}
 use Rattle.routing.specs.Lists.{Once, has}
-use Rattle.routing.specs.Rules.{Entry, is_loop, trunk, no_trunk, unreached}
+use Rattle.routing.specs.Rules.{is_loop, trunk, no_trunk}
 use Rattle.running.specs.declared.network.Index.{Index}
-use Rattle.running.specs.declared.table.Table.{Table}
 use Rattle.running.specs.declared.Work.{Work}
 use Rattle.running.specs.Network.{Ends, ChainedFrom, Wired}
-use Rattle.running.specs.Table.{seen_all, is_due}
-use Rattle.running.specs.Work.{Arrivals, SoundOver, Marked, names_inside}
+use Rattle.running.specs.Work.{SoundOver, Marked, names_inside}
 use Rattle.book.specs.declared.Phase.{Phase}
 use Rattle.book.specs.declared.Phase.TheVariants.{Idle, Running, Standing}
 use Rattle.book.specs.declared.Book.{Book}

@@ -1,21 +1,21 @@
 -- What the readings promise, from the checks that they made and the entries that they read.
-use Rattle.std.proofs.Common.{◌≡◌, ℕ, zero, suc, ◌+◌, ◌<◌, ◌≤◌, Bool, true, false, cond, not, ◌&&◌, ◌||◌, eqb, ltb, leb, List, [], ◌∷◌, ◌++◌, length, get_or, drop, set, Some, None, Ok, Err, vec_items, vec_len, Option, Result, sym, refl, ap, ◌∙◌, subst, arith}
+use Rattle.std.proofs.Common.{◌≡◌, ℕ, zero, suc, ◌+◌, ◌<◌, ◌≤◌, Bool, true, false, cond, not, ◌&&◌, ◌||◌, eqb, ltb, leb, List, [], ◌∷◌, ◌++◌, length, get_or, drop, set, Some, None, Ok, Err, vec_items, vec_len, Option, sym, refl, ap, ◌∙◌, subst, arith}
 use Rattle.std.proofs.lemmas.List.{length_push, drop_more, append_assoc, set_at}
-use Rattle.std.proofs.lemmas.Bool.{both_ways, cond-true, cond-false, not_from_true, not_from_false, leb-false, lt-ltb, le-ltb, ltb-true, ltb-false, and_parts}
+use Rattle.std.proofs.lemmas.Bool.{cond-true, cond-false, not_from_true, not_from_false, leb-false, lt-ltb, le-ltb, ltb-true, ltb-false, and_parts}
 use Rattle.routing.specs.declared.Trunk.{Trunk}
 use Rattle.routing.specs.declared.Verdict.{Verdict}
 use Rattle.routing.specs.declared.Verdict.TheVariants.{Working, Settled, Looped}
 use Rattle.routing.specs.Kind.{Kind}
-use Rattle.routing.specs.Rules.{Run, unreached, trunk, is_loop, label, is_reached}
+use Rattle.routing.specs.Rules.{Run, trunk, is_loop, label, is_reached}
 use Rattle.routing.specs.History.{State, standing}
 use Rattle.routing.specs.Promise.{ReadsSo}
 use Rattle.routing.specs.Refusals.{first_of}
-use Rattle.routing.specs.Readings.{Reading, told, denied, unless, of_finished, asked, fine, settled_at, no_room, charge_of, arrival_of, route_of, between, loop_of, charge, arrival, route, loop}
+use Rattle.routing.specs.Readings.{told, denied, unless, of_finished, asked, fine, settled_at, no_room, charge_of, arrival_of, route_of, between, loop_of, charge, arrival, route, loop}
 use Rattle.routing.proofs.Readings.{Allowed, allows, read_on, denies, unless_free, unless_some, reads_rightly}
 use Rattle.running.specs.declared.network.Network.{Network}
 use Rattle.running.specs.Network.{Wired, trunks_of}
 use Rattle.running.specs.Table.{seen_all}
-use Rattle.running.specs.Trails.{stops, trail}
+use Rattle.running.specs.Trails.{trail}
 use Rattle.running.specs.Work.{run_of, Arrivals, names_inside}
 use Rattle.book.specs.declared.Phase.TheVariants.{Idle, Running, Standing}
 use Rattle.book.specs.declared.Phase.{Phase as Stage}

@@ -1,5 +1,5 @@
 -- What the calls of a run promise, from the checks that they made and the steps that they took.
-use Rattle.std.proofs.Common.{◌≡◌, ℕ, ◌+◌, ◌<◌, ◌≤◌, Bool, true, false, not, ◌||◌, eqb, ltb, List, [], length, Some, None, vec_items, vec_len, Option, sym, refl, ap, ◌∙◌, subst, arith}
+use Rattle.std.proofs.Common.{◌≡◌, ℕ, ◌+◌, ◌<◌, ◌≤◌, true, false, not, ◌||◌, eqb, ltb, List, [], length, Some, None, vec_items, vec_len, Option, sym, refl, ap, ◌∙◌, subst, arith}
 use Rattle.std.proofs.lemmas.Bool.{both_ways, not-false, ltb-false, not_from_true, or_from, ne_eqb, eq-eqb, le-ltb}
 use Rattle.std.proofs.lemmas.List.{length-map}
 use Rattle.routing.specs.declared.Trunk.{Trunk}
@@ -8,9 +8,9 @@ use Rattle.routing.specs.Kind.{Kind}
 use Rattle.routing.specs.Lists.{has}
 use Rattle.routing.specs.Rules.{Run, begun, passed, is_loop}
 use Rattle.routing.specs.Orders.{Meaning}
-use Rattle.routing.specs.History.{State, step, began, pass, finished, abandoned, idle, running, standing}
+use Rattle.routing.specs.History.{State, step, began, pass, finished, abandoned, running}
 use Rattle.routing.specs.Refusals.{is_running, works, is_working}
-use Rattle.routing.specs.Calls.{Call, Answer, begin, do_pass, finish, abandon, refused, done, shown, said, refusals, refusal, Answers}
+use Rattle.routing.specs.Calls.{Answer, begin, do_pass, finish, abandon, refused, done, shown, said, refusals, refusal, Answers}
 use Rattle.routing.specs.Does.{Serves, applied}
 use Rattle.routing.proofs.Does.{serves_refused, serves_accepted}
 use Rattle.routing.proofs.Refused.{NoneOf, none_of, of_none}

@@ -1,6 +1,6 @@
 -- What the calls of the code answer, as the rules see it.
 use Rattle.std.specs.Prelude.{ℕ, Some, None, Ok, Err, Option, Result}
-use Rattle.routing.specs.Calls.{Answer, refused, numbered, done, shown, says_working, says_settled, says_loop}
+use Rattle.routing.specs.Calls.{Answer, refused, shown, says_working, says_settled, says_loop}
 use Rattle.routing.specs.Readings.{Reading, told, denied}
 use Rattle.book.specs.declared.refusal.Refusal.{Refusal}
 use Rattle.book.specs.declared.refusal.Refused.{Refused}

@@ -1,5 +1,5 @@
 -- What a book holds between two calls, in a form that has one proof at most.
-use Rattle.std.specs.Prelude.{◌≡◌, ℕ, ◌+◌, ◌<◌, ◌≤◌, Bool, true, false, not, ◌&&◌, List, [], ◌∷◌, length, get_or, Some, None, vec_items, vec_len, vec_capacity, Option, Vec, ◌==◌, slice_index_or}
+use Rattle.std.specs.Prelude.{◌≡◌, ℕ, ◌+◌, ◌<◌, ◌≤◌, Bool, true, false, not, ◌&&◌, List, [], ◌∷◌, get_or, Some, None, vec_items, vec_len, vec_capacity, Option, Vec, ◌==◌, slice_index_or}
 use Rattle.std.specs.declared.alloc.Global.{Global}
 use Rattle.routing.specs.declared.Trunk.{Trunk}
 use Rattle.routing.specs.Lists.{has}

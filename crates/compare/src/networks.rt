@@ -91,7 +91,7 @@ fn base(dice: &mut Dice, odds: u64) -> i32
     }
 }
 
-fn make_link(dice: &mut Dice, shape: Shape, n: u16, odds: u64) -> Link
+pub fn make_link(dice: &mut Dice, shape: Shape, n: u16, odds: u64) -> Link
     requires { (0 < n) × (0 < odds) }
 {
     let (from, to) = ends(dice, shape, n);

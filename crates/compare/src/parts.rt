@@ -10,6 +10,8 @@ pub struct Parts {
 }
 
 impl Parts {
+    pub const ZERO: Parts = Parts { mills: 0, delay: 0 };
+
     pub fn plus(self, other: Parts) -> Parts {
         Parts {
             mills: self.mills.saturating_add(other.mills),

@@ -9,15 +9,23 @@ pub enum Least {
     Endless,
 }
 
+// What has been found for exchange `x`, if anything.
+pub fn sum_at(sums: &[Option<Parts>], x: u16) -> Option<Parts> {
+    match sums.get(x as usize).copied() {
+        Some(sum) => sum,
+        None => None,
+    }
+}
+
 // The sum that this trunk would give its head, if it is less than what the head has.
 fn less(sums: &[Option<Parts>], link: Link, length: Parts) -> Option<Parts> {
-    let Some(Some(so_far)) = sums.get(link.from as usize).copied() else {
+    let Some(so_far) = sum_at(sums, link.from) else {
         return None;
     };
     let sum = so_far.plus(length);
-    match sums.get(link.to as usize).copied() {
-        Some(Some(old)) => { if sum < old { Some(sum) } else { None } }
-        _ => Some(sum),
+    match sum_at(sums, link.to) {
+        Some(old) => { if sum < old { Some(sum) } else { None } }
+        None => Some(sum),
     }
 }
 
@@ -50,7 +58,7 @@ pub fn least_sums<L: Plain>(
     links: &[Link],
 ) -> Result<Least, AllocError> {
     let mut sums = vec![in heap; None; n as usize]?;
-    put(&mut sums, home, Parts { mills: 0, delay: 0 });
+    put(&mut sums, home, Parts::ZERO);
     for _ in 0..n as usize + 1 {
         if !round::<L>(&mut sums, links) {
             return Ok(Least::Sums(sums));

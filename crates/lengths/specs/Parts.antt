@@ -1,5 +1,5 @@
 -- Pairs that are compared by the first part and, where that is level, by the second, keep the laws of a length if their parts do.
-use Rattle.std.specs.Prelude.{◌≡◌, ℕ, ◌+◌, ◌≤◌, max, Bool, true, false, not, ◌&&◌, ◌||◌, ◌⊎◌, refl}
+use Rattle.std.specs.Prelude.{◌≡◌, ℕ, max, Bool, true, false, not, ◌&&◌, ◌||◌, ◌⊎◌, refl}
 use Rattle.std.proofs.Common.{subst, ap₂, inl, inr, ⊎_elim, arith}
 use Rattle.std.proofs.Math.Logic.{⊎_swap}
 use Rattle.std.proofs.lemmas.Bool.{cases_Bool, both_ways, false≢true}

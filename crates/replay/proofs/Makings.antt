@@ -1,16 +1,14 @@
 -- One call and the ticket that is held, before it and after it.
-use Rattle.std.proofs.Common.{◌≡◌, ℕ, Bool, true, false, not, List, [], is_ok, Some, None, Ok, Err, Option, Result, sym, refl, ap, ◌∙◌, subst, arith}
-use Rattle.std.proofs.lemmas.Bool.{both_ways, not-false}
+use Rattle.std.proofs.Common.{◌≡◌, ℕ, Bool, true, false, List, [], is_ok, Some, None, Ok, Err, Option, Result, sym, refl, ap, ◌∙◌, subst, arith}
+use Rattle.std.proofs.lemmas.Bool.{both_ways}
 use Rattle.routing.specs.declared.Trunk.{Trunk}
 use Rattle.routing.specs.Kind.{Kind}
 use Rattle.routing.specs.Rules.{Run}
-use Rattle.routing.specs.Orders.{Meaning}
-use Rattle.routing.specs.History.{State, Phase, idle, running, standing, Event, edit, step, Edit, laid, repriced, barred, unbarred, Step, began, pass, finished, abandoned, edited, stepped}
+use Rattle.routing.specs.History.{State, Phase, idle, running, standing, Event, edit, step, pass, finished, stepped}
 use Rattle.routing.specs.Refusals.{is_running}
-use Rattle.routing.specs.Calls.{Call, lay, reprice, bar, unbar, begin, do_pass, finish, abandon, Answer, refused, skipped, numbered, done, shown, needs_ticket, refusals, refusal, Becomes, Answers}
+use Rattle.routing.specs.Calls.{Call, lay, reprice, bar, unbar, begin, do_pass, finish, abandon, Answer, refused, numbered, done, refusal, Becomes}
 use Rattle.routing.specs.Does.{Does, applied}
 use Rattle.routing.proofs.Histories.{same_edit, same_step}
-use Rattle.routing.proofs.Refused.{none_of}
 use Rattle.running.specs.Work.{run_of}
 use Rattle.book.specs.declared.Phase.{Phase as Stage}
 use Rattle.book.specs.declared.Phase.TheVariants.{Idle, Running, Standing}
@@ -19,7 +17,6 @@ use Rattle.book.specs.declared.Ticket.{Ticket}
 use Rattle.book.specs.declared.outcome.Ending.{Ending}
 use Rattle.book.specs.declared.refusal.Refusal.{Refusal}
 use Rattle.book.specs.Answers.{answer_by, shows_end}
-use Rattle.book.specs.Orders.{ByOrder}
 use Rattle.book.specs.State.{phase_of, state_of, runs}
 use Rattle.replay.specs.Making.{Bears, Makes, SameName}
 

@@ -1,18 +1,18 @@
 -- From calls made one by one to the whole promise.
 use Rattle.std.proofs.Common.{◌≡◌, ℕ, suc, ◌+◌, ◌<◌, ◌≤◌, Bool, true, false, cond, not, ◌||◌, eqb, ltb, leb, List, [], ◌∷◌, ◌++◌, map, length, get_or, take, drop, Some, None, vec_items, Option, sym, refl, ap, ◌∙◌, subst, ⊎_elim, arith}
 use Rattle.std.proofs.lemmas.List.{take_at, drop_at}
-use Rattle.std.proofs.lemmas.Bool.{both_ways, cases_Bool, cases_lt, cond-true, cond-false, not_from_true, not_from_false, lt-ltb, le-ltb, lt-leb, le-leb, or_from, ne_eqb}
+use Rattle.std.proofs.lemmas.Bool.{both_ways, cases_Bool, cond-true, cond-false, not_from_true, not_from_false, le-ltb, lt-leb, or_from, ne_eqb}
 use Rattle.routing.specs.declared.Trunk.{Trunk}
 use Rattle.routing.specs.declared.Verdict.{Verdict}
 use Rattle.routing.specs.declared.Verdict.TheVariants.{Working as working, Settled as settled, Looped as looped}
 use Rattle.routing.specs.Kind.{Kind}
-use Rattle.routing.specs.Lists.{Once, has}
-use Rattle.routing.specs.Walks.{Tariff, Walk, tail, tails, Cheapest, Unbounded, Named}
+use Rattle.routing.specs.Lists.{has}
+use Rattle.routing.specs.Walks.{Walk, tail, tails, Cheapest, Unbounded, Named}
 use Rattle.routing.specs.Rules.{Run, is_loop}
 use Rattle.routing.specs.Orders.{Meaning, Showable}
 use Rattle.routing.specs.History.{Event, edit, step, laid, repriced, barred, unbarred, began, pass, finished, abandoned, History, count, tariff_of, State, Phase, idle, running, standing, stepped, after, Fits, Works, Accepted}
 use Rattle.routing.specs.Refusals.{first_of, unfit}
-use Rattle.routing.specs.Calls.{Call, Answer, refused, skipped, refusal, Becomes, Answers, Plays}
+use Rattle.routing.specs.Calls.{Call, Answer, Answers, Plays}
 use Rattle.routing.specs.Readings.{Reading, told, denied, unless, of_finished, settled_at, no_room, charge_of, arrival_of, loop_of, charge, arrival, loop}
 use Rattle.routing.specs.Promise.{IsLooped, Right, RightAt, ReadsRight}
 use Rattle.routing.specs.Does.{Does, applied}
@@ -32,7 +32,6 @@ use Rattle.replay.specs.declared.Call.{Call as Code}
 use Rattle.replay.specs.declared.Answer.{Answer as CodeAnswer}
 use Rattle.replay.specs.declared.Replayed.{Replayed}
 use Rattle.replay.specs.declared.Read.{Read}
-use Rattle.replay.specs.declared.Read.TheVariants.{Nothing, Sheet, Loop}
 use Rattle.replay.specs.Making.{Bears, Makes, answer_of, call_of}
 use Rattle.replay.specs.Reading.{Filled, ReadsOut}
 use Rattle.replay.specs.Replaying.{MakesAll, Tells, Leaves, Replays}

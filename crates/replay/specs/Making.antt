@@ -1,5 +1,5 @@
 -- One call of a list, as the rules see it, and the ticket that is held between two calls.
-use Rattle.std.specs.Prelude.{◌≡◌, ℕ, Bool, true, false, List, Some, None, Option}
+use Rattle.std.specs.Prelude.{◌≡◌, ℕ, true, false, List, Some, None, Option}
 use Rattle.routing.specs.declared.Trunk.{Trunk}
 use Rattle.routing.specs.Kind.{Kind}
 use Rattle.routing.specs.Rules.{Run}

@@ -10,8 +10,6 @@ use Rattle.routing.specs.Calls.{Plays}
 use Rattle.routing.specs.Calls as rules
 use Rattle.routing.specs.Readings.{told, charge, arrival, loop}
 use Rattle.routing.specs.Promise.{Right}
-use Rattle.book.specs.declared.Book.{Book}
-use Rattle.book.specs.declared.Ticket.{Ticket}
 use Rattle.book.specs.Orders.{ByOrder}
 use Rattle.book.specs.State.{state_of}
 use Rattle.replay.specs.declared.Read.{Read}

@@ -1,9 +1,9 @@
 -- A call that does what the rules say carries on every history that made its book.
-use Rattle.std.proofs.Common.{◌≡◌, ℕ, List, ◌∷◌, length, Some, None, Option, sym, refl, ap, ◌∙◌, subst}
+use Rattle.std.proofs.Common.{◌≡◌, ℕ, List, ◌∷◌, length, Some, None, sym, refl, ◌∙◌, subst}
 use Rattle.routing.specs.Kind.{Kind}
 use Rattle.routing.specs.Rules.{Trunk, Run}
 use Rattle.routing.specs.Orders.{Meaning}
-use Rattle.routing.specs.History.{Event, edit, step, History, count, State, Phase, running, after, Accepted}
+use Rattle.routing.specs.History.{Event, edit, step, History, count, State, after, Accepted}
 use Rattle.routing.specs.Calls.{Call, lay, reprice, bar, unbar, begin, do_pass, finish, abandon, Answer, refused, refusal, Answers, Becomes}
 use Rattle.routing.specs.Promise.{Right}
 use Rattle.routing.specs.Does.{Does, CarriesOn, KeepsHistory, Serves, applied}

@@ -1,5 +1,5 @@
 -- A pass from its first step, at which no exchange waits and the answered are marked, to its end.
-use Rattle.std.proofs.Common.{◌≡◌, ℕ, ◌<◌, ◌≤◌, Bool, true, false, cond, ◌||◌, ◌⊎◌, List, [], ◌∷◌, length, get_or, vec_items, vec_len, vec_capacity, Vec, sym, refl, ap, ◌∙◌, subst, inl, inr, ⊎_elim, arith}
+use Rattle.std.proofs.Common.{◌≡◌, ℕ, ◌<◌, Bool, true, false, cond, ◌||◌, ◌⊎◌, List, [], length, get_or, vec_items, vec_len, vec_capacity, Vec, sym, refl, ap, ◌∙◌, subst, inl, inr, ⊎_elim, arith}
 use Rattle.std.proofs.lemmas.List.{get_or_past}
 use Rattle.std.proofs.lemmas.Bool.{both_ways, cases_lt, cases_Bool, cond-true, cond-false}
 use Rattle.std.specs.declared.alloc.Global.{Global}
@@ -11,7 +11,7 @@ use Rattle.routing.specs.Lists.{has}
 use Rattle.routing.specs.Rules.{Run, Entry, unreached, counted, is_loop, none_left, concluded}
 use Rattle.running.specs.declared.table.Table.{Table}
 use Rattle.running.specs.declared.Work.{Work}
-use Rattle.running.specs.Table.{seen_all, dues}
+use Rattle.running.specs.Table.{seen_all}
 use Rattle.running.specs.Work.{run_of, Arrivals, Holds, Marks}
 
 pub reached_below : (es : List Entry) (x : ℕ) → (get_or es x unreached).reached ≡ true → x < length es

@@ -1,7 +1,7 @@
 -- What holds as a run begins.
-use Rattle.std.proofs.Common.{◌≡◌, ℕ, zero, suc, ◌<◌, ◌≤◌, Bool, true, false, ◌||◌, eqb, List, [], ◌∷◌, map, length, get_or, set, replicate, Some, None, vec_items, vec_len, vec_capacity, Option, Vec, sym, refl, ap, ◌∙◌, ⊎_elim, arith}
+use Rattle.std.proofs.Common.{◌≡◌, ℕ, zero, suc, ◌<◌, ◌≤◌, true, false, eqb, List, [], ◌∷◌, map, get_or, set, replicate, Some, None, vec_items, vec_len, vec_capacity, Option, Vec, sym, refl, ap, ◌∙◌, ⊎_elim, arith}
 use Rattle.std.proofs.lemmas.List.{get_or_past, get_or-set_same, get_or-set_other, get_or-replicate, length-replicate, map-set}
-use Rattle.std.proofs.lemmas.Bool.{both_ways, cases_lt, cases_eq, or_left, or_from, eq-eqb, ne_eqb}
+use Rattle.std.proofs.lemmas.Bool.{both_ways, cases_lt, cases_eq, or_left, or_from, ne_eqb}
 use Rattle.std.specs.declared.alloc.Global.{Global}
 use Rattle.routing.specs.Lists.{has}
 use Rattle.routing.specs.declared.Verdict.TheVariants.{Working}
@@ -11,7 +11,7 @@ use Rattle.routing.specs.Rules as rules
 use Rattle.routing.proofs.Lists.{has_only, has_here}
 use Rattle.running.specs.declared.table.Entry.{Entry}
 use Rattle.running.specs.declared.table.Table.{Table}
-use Rattle.running.specs.Table.{seen, seen_all, dues}
+use Rattle.running.specs.Table.{seen_all, dues}
 use Rattle.running.specs.Work.{Holds, Marks}
 
 -- the entries that a run begins with

@@ -1,11 +1,11 @@
 -- A pass names no loop but of its own exchanges and trunks.
-use Rattle.std.proofs.Common.{◌≡◌, ℕ, ◌<◌, Bool, true, false, cond, ltb, List, [], ◌∷◌, length, sym, refl, ap, ◌∙◌}
+use Rattle.std.proofs.Common.{◌≡◌, ℕ, ◌<◌, true, ltb, List, [], ◌∷◌, length, refl}
 use Rattle.std.proofs.lemmas.Bool.{and_from, lt-ltb, cond_both}
 use Rattle.routing.specs.declared.Trunk.{Trunk}
 use Rattle.routing.specs.declared.Verdict.TheVariants.{Working, Settled}
 use Rattle.routing.specs.Kind.{Kind}
 use Rattle.routing.specs.Lists.{has}
-use Rattle.routing.specs.Rules.{Run, trunk, back, is_loop, improving, none_left, leaving, ended, moved, tried, tried_all, scanned, turns, concluded, passed}
+use Rattle.routing.specs.Rules.{Run, trunk, back, is_loop, improving, none_left, leaving, moved, tried, tried_all, scanned, turns, passed}
 use Rattle.routing.proofs.Facts.{has_leaving}
 use Rattle.routing.proofs.Lists.{has_here, has_there}
 use Rattle.running.specs.Work.{names_inside}

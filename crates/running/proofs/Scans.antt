@@ -1,10 +1,9 @@
 -- A turn, trunk by trunk.
-use Rattle.std.proofs.Common.{◌≡◌, ℕ, zero, suc, ◌+◌, ◌-◌, ◌<◌, ◌≤◌, Bool, true, false, cond, not, ◌&&◌, eqb, List, [], ◌∷◌, ◌++◌, length, get_or, drop, sym, refl, ap, ◌∙◌, subst, arith}
-use Rattle.std.proofs.lemmas.List.{drop_more, drop_all}
+use Rattle.std.proofs.Common.{◌≡◌, ℕ, ◌+◌, true, false, List, [], ◌∷◌, sym, refl, ap, ◌∙◌}
 use Rattle.std.proofs.lemmas.Bool.{cond-true, cond-false}
 use Rattle.routing.specs.declared.Trunk.{Trunk}
 use Rattle.routing.specs.Kind.{Kind}
-use Rattle.routing.specs.Rules.{Run, trunk, no_trunk, is_loop, leaving, leaving_from, tried, tried_all}
+use Rattle.routing.specs.Rules.{Run, is_loop, leaving, tried, tried_all}
 use Rattle.running.specs.declared.network.Network.{Network}
 use Rattle.running.specs.declared.Work.{Work}
 use Rattle.running.specs.Network.{rest, trunks_of}

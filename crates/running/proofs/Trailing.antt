@@ -1,6 +1,6 @@
 -- The way back, counted and then written from its far end.
 use Rattle.std.proofs.Common.{◌≡◌, ℕ, zero, suc, ◌+◌, ◌-◌, ◌<◌, ◌≤◌, Bool, true, false, cond, ◌⊎◌, List, [], ◌∷◌, ◌++◌, length, get_or, take, drop, set, Some, None, Option, sym, refl, ap, ◌∙◌, subst, inl, inr, arith}
-use Rattle.std.proofs.lemmas.List.{length_push, length-append, length-take-le, length-drop, length-set, take_all, take_more, drop_more, drop-append-le, drop_all, append_assoc, append-nil, take-append-drop, get_or_append_left, get_or-append_right, same_from_push, set_at, drop_at, take_more_set, take-set, set-append_left, take-append-le}
+use Rattle.std.proofs.lemmas.List.{length-append, length-take-le, length-drop, take_all, take_more, drop_more, append_assoc, take-append-drop, get_or_append_left, same_from_push, set_at, drop_at, set-append_left}
 use Rattle.std.proofs.lemmas.Bool.{cases_Bool, cond-true, cond-false}
 use Rattle.routing.specs.declared.Trunk.{Trunk}
 use Rattle.routing.specs.Rules.{Entry, unreached, trunk}

@@ -1,5 +1,5 @@
 -- The table of entries as the code holds it, and what the rules see of it.
-use Rattle.std.specs.Prelude.{ℕ, Bool, true, false, List, map, Some, None, vec_items, slice_index_or}
+use Rattle.std.specs.Prelude.{ℕ, Bool, true, false, List, map, Some, vec_items, slice_index_or}
 use Rattle.routing.specs.Rules as rules
 use Rattle.running.specs.declared.table.Entry.{Entry}
 use Rattle.running.specs.declared.table.Table.{Table}

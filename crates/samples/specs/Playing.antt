@@ -1,5 +1,5 @@
 -- A list of calls on a new book, worked out by the rules.
-use Rattle.std.specs.Prelude.{ℕ, zero, suc, ◌+◌, List, [], ◌∷◌, ◌++◌, replicate, Some, None, fold, Option}
+use Rattle.std.specs.Prelude.{ℕ, zero, suc, ◌+◌, List, [], ◌∷◌, ◌++◌, replicate, Some, None, fold}
 use Rattle.routing.specs.declared.Trunk.{Trunk}
 use Rattle.routing.specs.Kind.{Kind}
 use Rattle.routing.specs.Rules.{Run}

@@ -1,7 +1,5 @@
 -- Worked examples, each computed from the rules.
-use Rattle.std.specs.Prelude.{◌≡◌, ℕ, List, [], ◌∷◌, ℤ, pos, negsuc, neg_ℤ, Some, None, Option}
-use Rattle.routing.specs.declared.Trunk.{Trunk}
-use Rattle.routing.specs.Rules.{Run}
+use Rattle.std.specs.Prelude.{◌≡◌, ℕ, List, [], ◌∷◌, ℤ, pos, negsuc, neg_ℤ, Some, None}
 use Rattle.routing.specs.Orders.{queue, topological}
 use Rattle.routing.specs.History.{State}
 use Rattle.routing.specs.Calls.{Call, lay, shown, says_settled, says_loop, refusal}

@@ -1,4 +1,4 @@
-use Rattle.std.proofs.Common.{◌≡◌, true, vec_items, vec_len, refl, arith}
+use Rattle.std.proofs.Common.{true, vec_items, vec_len, refl, arith}
 use Rattle.std.proofs.lemmas.Result.{err_from_is_err_and}
 use Rattle.std.proofs.lemmas.Bool.{both_ways}
 use Rattle.routing.specs.Calls.{lay}

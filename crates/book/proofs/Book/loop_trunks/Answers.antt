@@ -1,11 +1,11 @@
-use Rattle.std.proofs.Common.{◌≡◌, ℕ, ◌<◌, List, ◌++◌, length, drop, Some, vec_items, sym, ap, ◌∙◌, arith}
+use Rattle.std.proofs.Common.{List, ◌++◌, length, drop, Some, vec_items, ap, ◌∙◌, arith}
 use Rattle.std.proofs.lemmas.Result.{err_from_is_err_and}
 use Rattle.routing.specs.declared.Trunk.{Trunk}
 use Rattle.routing.specs.Rules.{trunk}
 use Rattle.running.specs.Network.{trunks_of}
 use Rattle.running.specs.Table.{seen_all}
 use Rattle.running.specs.Trails.{trail}
-use Rattle.book.proofs.ReadCalls.{loop_runs, loop_at, loop_by, net_wired, net_entries, net_arrivals, net_trail, loop_denied, loop_short, loop_written}
+use Rattle.book.proofs.ReadCalls.{loop_runs, loop_at, net_wired, net_entries, net_arrivals, net_trail, loop_denied, loop_short, loop_written}
 use Rattle.book.proofs.Book.loop_trunks.Goals as goal
 
 pub returns-in_err-v : goal.returns-in_err-v

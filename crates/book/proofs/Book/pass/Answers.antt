@@ -3,7 +3,6 @@ use Rattle.std.proofs.lemmas.Result.{err_from_is_err_and}
 use Rattle.std.proofs.lemmas.Bool.{both_ways}
 use Rattle.routing.specs.declared.Trunk.{Trunk}
 use Rattle.routing.specs.Rules.{passed}
-use Rattle.routing.specs.Calls.{do_pass}
 use Rattle.running.specs.Work.{SoundOver, run_of}
 use Rattle.book.specs.Answers.{shows}
 use Rattle.book.specs.Held.{has_run, Names}

@@ -1,4 +1,4 @@
-use Rattle.std.proofs.Common.{◌≡◌, ◌<◌, ◌++◌, length, drop, None, vec_len, sym, ap, ◌∙◌, arith}
+use Rattle.std.proofs.Common.{◌<◌, ◌++◌, length, drop, None, vec_len, ap, ◌∙◌, arith}
 use Rattle.std.proofs.lemmas.Result.{err_from_is_err_and}
 use Rattle.running.proofs.Tables.{read_seen}
 use Rattle.book.proofs.ReadCalls.{runs, below, net_wired, net_entries, net_arrivals, net_trail, route_denied, route_unreached, route_short, route_written}

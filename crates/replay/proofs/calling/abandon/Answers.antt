@@ -1,10 +1,9 @@
-use Rattle.std.proofs.Common.{◌≡◌, ℕ, length, Some, Option, sym, refl, ap, ◌∙◌, subst}
+use Rattle.std.proofs.Common.{◌≡◌, ℕ, length, Some, Option, sym, refl, subst}
 use Rattle.routing.specs.Calls.{abandon, done, refused}
 use Rattle.routing.specs.Does.{Does}
 use Rattle.routing.specs.Orders.{Meaning}
 use Rattle.book.specs.declared.Book.{Book}
 use Rattle.book.specs.declared.Ticket.{Ticket}
-use Rattle.book.specs.Answers.{shows_end}
 use Rattle.book.specs.Refusal.{number_of}
 use Rattle.book.specs.State.{state_of}
 use Rattle.replay.specs.Making.{Bears, Makes}

@@ -1,5 +1,5 @@
-use Rattle.std.proofs.Common.{◌≡◌, ℕ, length, Some, Option, sym, refl, ap, ◌∙◌, subst}
-use Rattle.routing.specs.Calls.{finish, done, refused}
+use Rattle.std.proofs.Common.{◌≡◌, ℕ, length, Some, Option, sym, refl, subst}
+use Rattle.routing.specs.Calls.{finish, refused}
 use Rattle.routing.specs.Does.{Does}
 use Rattle.routing.specs.Orders.{Meaning}
 use Rattle.book.specs.declared.Book.{Book}

@@ -1,4 +1,4 @@
-use Rattle.std.proofs.Common.{◌≡◌, ℕ, length, Some, Option, sym, refl, ap, ◌∙◌, subst}
+use Rattle.std.proofs.Common.{◌≡◌, ℕ, length, Some, Option, sym, refl, subst}
 use Rattle.routing.specs.Calls.{do_pass, refused}
 use Rattle.routing.specs.Does.{Does}
 use Rattle.book.specs.declared.Book.{Book}

@@ -1,9 +1,9 @@
-use Rattle.std.proofs.Common.{◌≡◌, ◌<◌, length, sym, ap, ◌∙◌, arith}
+use Rattle.std.proofs.Common.{◌<◌, length, sym, ap, ◌∙◌, arith}
 use Rattle.routing.specs.Readings.{arrival}
 use Rattle.book.specs.Answers.{reading_of}
 use Rattle.book.specs.Refusal.{number_of}
 use Rattle.book.specs.State.{state_of}
-use Rattle.replay.proofs.Fillings.{filled_none, filled_set, filled_skip}
+use Rattle.replay.proofs.Fillings.{filled_set, filled_skip}
 use Rattle.replay.proofs.reading_out.read_arrivals.Goals as goal
 use Rattle.replay.proofs.reading_out.read_arrivals.Goals.{in-Ok, in_default}
 

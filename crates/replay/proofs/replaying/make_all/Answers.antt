@@ -1,9 +1,8 @@
-use Rattle.std.proofs.Common.{◌≡◌, ℕ, ◌<◌, List, map, length, take, drop, sym, refl, ap, ◌∙◌, subst, arith}
+use Rattle.std.proofs.Common.{◌≡◌, ℕ, ◌<◌, List, map, length, take, drop, refl, ap, ◌∙◌, subst, arith}
 use Rattle.std.proofs.lemmas.List.{take_all}
 use Rattle.routing.specs.Calls as rules
 use Rattle.book.specs.Orders.{ByOrder}
 use Rattle.book.specs.State.{state_of}
-use Rattle.replay.specs.declared.Call.{Call}
 use Rattle.replay.specs.Making.{Bears, answer_of, call_of}
 use Rattle.replay.specs.Replaying.{MakesAll}
 use Rattle.replay.proofs.Lists.{so_on, behind}

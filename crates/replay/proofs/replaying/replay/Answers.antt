@@ -1,4 +1,4 @@
-use Rattle.std.proofs.Common.{◌≡◌, ℕ, ◌≤◌, min, map, length, take, sym, ap, ◌∙◌, subst, arith}
+use Rattle.std.proofs.Common.{ℕ, map, length, take, sym, ◌∙◌, subst, arith}
 use Rattle.book.specs.State.{state_of}
 use Rattle.replay.specs.Making.{Bears, answer_of}
 use Rattle.replay.proofs.Promised.{made_on_new, replays_so, long_enough}

@@ -1,6 +1,6 @@
-use Rattle.std.proofs.Common.{◌≡◌, ℕ, ◌+◌, ◌<◌, true, false, List, length, get_or, vec_len, sym, ap, ◌∙◌, arith}
+use Rattle.std.proofs.Common.{ℕ, ◌+◌, ◌<◌, vec_len, sym, ap, ◌∙◌, arith}
 use Rattle.std.proofs.lemmas.List.{get_or_read}
-use Rattle.routing.specs.Rules.{trunk, is_reached, sum_by, label}
+use Rattle.routing.specs.Rules.{trunk}
 use Rattle.running.specs.Network.{trunks_of}
 use Rattle.running.specs.Work.{run_of}
 use Rattle.running.proofs.Tables.{read_seen}

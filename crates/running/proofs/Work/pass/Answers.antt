@@ -1,11 +1,10 @@
-use Rattle.std.proofs.Common.{◌≡◌, ℕ, ◌<◌, true, cond, List, [], length, vec_items, vec_len, sym, refl, ap, ◌∙◌, subst, arith}
+use Rattle.std.proofs.Common.{◌≡◌, ℕ, true, cond, length, vec_items, ap, ◌∙◌, arith}
 use Rattle.std.proofs.lemmas.List.{length-map}
 use Rattle.routing.specs.declared.Verdict.TheVariants.{Working as working, Settled as settled}
 use Rattle.routing.specs.Lists.{has}
-use Rattle.routing.specs.Rules.{Run, none_left, concluded, turns}
+use Rattle.routing.specs.Rules.{none_left, concluded, turns}
 use Rattle.running.specs.Network.{trunks_of}
 use Rattle.running.specs.Table.{dues, seen, seen_all}
-use Rattle.running.specs.Work.{Holds, Marks}
 use Rattle.running.proofs.Moves.{due_inside}
 use Rattle.running.proofs.Begins.{reached_below, marks_begun, holds_begun, run_begun, run_concluded, no_loop_before}
 use Rattle.running.proofs.Work.pass.Goals as goal

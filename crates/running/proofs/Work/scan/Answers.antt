@@ -1,8 +1,7 @@
-use Rattle.std.proofs.Common.{◌≡◌, ℕ, ◌+◌, ◌-◌, ◌<◌, ◌≤◌, List, length, get_or, Some, None, vec_items, vec_len, Option, sym, refl, ap, ◌∙◌, subst, arith}
-use Rattle.std.proofs.lemmas.List.{get_or_read}
-use Rattle.running.specs.Network.{front, rest, trunks_of}
-use Rattle.running.proofs.Scans.{Going, going_jump}
-use Rattle.running.proofs.Indexes.{Fronted, front_some, falls_on, next_on, at_most}
+use Rattle.std.proofs.Common.{ℕ, ◌+◌, get_or, None, sym, ◌∙◌, arith}
+use Rattle.running.specs.Network.{trunks_of}
+use Rattle.running.proofs.Scans.{going_jump}
+use Rattle.running.proofs.Indexes.{Fronted, front_some, falls_on, next_on}
 use Rattle.running.proofs.Work.scan.Goals as goal
 
 pub try_trunk-requires : goal.try_trunk-requires

@@ -1,4 +1,4 @@
-use Rattle.std.proofs.Common.{◌≡◌, ◌<◌, get_or, sym, ◌∙◌, arith}
+use Rattle.std.proofs.Common.{◌<◌, get_or, sym, arith}
 use Rattle.std.proofs.lemmas.Bool.{both_ways}
 use Rattle.routing.specs.Rules.{is_loop}
 use Rattle.running.proofs.Turns.{has_at, turning_start, turning_over, turning_end, turning_on, placed_sound}

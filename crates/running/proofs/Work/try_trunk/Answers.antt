@@ -1,4 +1,4 @@
-use Rattle.std.proofs.Common.{◌≡◌, ℕ, true, false, length, vec_items, sym, refl, ◌∙◌}
+use Rattle.std.proofs.Common.{◌≡◌, ℕ, true, false, length, vec_items, sym, refl}
 use Rattle.std.proofs.lemmas.Bool.{not-true, not-false}
 use Rattle.routing.specs.Rules.{trunk}
 use Rattle.running.specs.Network.{trunks_of}

@@ -1,4 +1,4 @@
-use Rattle.std.proofs.Common.{◌≡◌, ◌-◌, ◌<◌, length, get_or, Some, None, vec_len, sym, ap, ◌∙◌, arith}
+use Rattle.std.proofs.Common.{◌≡◌, ◌-◌, ◌<◌, get_or, Some, None, vec_len, sym, ap, ◌∙◌, arith}
 use Rattle.routing.specs.Rules.{unreached}
 use Rattle.running.specs.Network.{trunks_of}
 use Rattle.running.specs.Table.{seen_all}

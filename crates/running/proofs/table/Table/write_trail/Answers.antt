@@ -1,4 +1,4 @@
-use Rattle.std.proofs.Common.{◌≡◌, ℕ, ◌+◌, ◌-◌, ◌<◌, List, get_or, set, Some, None, vec_len, sym, ap, ◌∙◌, subst, arith}
+use Rattle.std.proofs.Common.{◌≡◌, ℕ, ◌+◌, ◌-◌, ◌<◌, get_or, Some, None, vec_len, ap, ◌∙◌, subst, arith}
 use Rattle.routing.specs.Rules.{unreached, trunk}
 use Rattle.running.specs.Network.{trunks_of}
 use Rattle.running.specs.Table.{seen_all}
