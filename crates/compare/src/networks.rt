@@ -48,7 +48,7 @@ impl Shape {
 
 // The ends of a trunk in a network of `n` exchanges.
 fn ends(dice: &mut Dice, shape: Shape, n: u16) -> (u16, u16)
-    requires { 0 < n }
+    requires { (0 < n) × (n ≤ 256) }
     ensures { (result.0 < n) × (result.1 < n) }
 {
     let a = dice.below(n as u64) as u16;
@@ -57,14 +57,10 @@ fn ends(dice: &mut Dice, shape: Shape, n: u16) -> (u16, u16)
     match shape {
         Shape::Random => (a, b),
         Shape::Chain => (a, near),
-        Shape::Grid => (
-            a,
-            if b % 2 == 0 && a < n - 1 {
-                a + 1
-            } else {
-                a / 16 * 16
-            },
-        ),
+        Shape::Grid => {
+            let next = if b % 2 == 0 { a + 1 } else { a + 16 };
+            (a, if next < n { next } else { a })
+        }
         Shape::Parallel => (a % 4, b % 4),
         Shape::Rounds => (a, a),
         Shape::Pairs => (a, near),
@@ -91,8 +87,8 @@ fn base(dice: &mut Dice, odds: u64) -> i32
     }
 }
 
-pub fn make_link(dice: &mut Dice, shape: Shape, n: u16, odds: u64) -> Link
-    requires { (0 < n) × (0 < odds) }
+fn make_link(dice: &mut Dice, shape: Shape, n: u16, odds: u64) -> Link
+    requires { (0 < n) × ((n ≤ 256) × (0 < odds)) }
 {
     let (from, to) = ends(dice, shape, n);
     let flat = dice.below(3) == 0;
@@ -121,7 +117,7 @@ pub fn links(
     n: u16,
     count: usize,
 ) -> Result<Vec<Link>, AllocError>
-    requires { 0 < n }
+    requires { (0 < n) × (n ≤ 256) }
 {
     let mut links = Vec::with_capacity(heap, count)?;
     let odds = 1 + dice.below(200);

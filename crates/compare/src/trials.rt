@@ -69,7 +69,7 @@ impl<L: Plain> Trial<L> {
         let n = 1 + dice.below(most) as u16;
         let home = dice.below(n as u64) as u16;
         let shape = Shape::pick(dice);
-        let count = dice.below(4 * n as u64 + 1) as usize;
+        let count = (n as u64 + dice.below(4 * n as u64)) as usize;
         let links = links(heap, dice, shape, n, count)?;
         let lengths = vec![in heap; L::zero(); MOST_EXCHANGES + MOST_TRUNKS]?;
         let book = Book::new(Space::take(heap)?, 1, n as usize);
@@ -83,7 +83,7 @@ impl<L: Plain> Trial<L> {
     }
 
     // Lays each link, and bars those that are not open.
-    pub fn lay(&mut self) -> Result<(), Difference> {
+    fn lay(&mut self) -> Result<(), Difference> {
         for link in &self.links {
             match self
                 .book
@@ -99,9 +99,7 @@ impl<L: Plain> Trial<L> {
         }
         Ok(())
     }
-}
 
-impl<L: Plain> Trial<L> {
     // The sums of the other method.
     pub fn least(&self, heap: Global) -> Result<Least, AllocError> {
         least_sums::<L>(heap, self.n, self.home, &self.links)
@@ -115,7 +113,7 @@ impl<L: Plain> Trial<L> {
     }
 
     // A run in this order, compared with the other method.
-    pub fn run<O: ScanOrder<L>>(
+    fn run<O: ScanOrder<L>>(
         &mut self,
         order: &O,
         least: &Least,

@@ -36,9 +36,9 @@ module _ {L : Type 0} (K : Kind L) (net : Network) (work : Work) (ls : List L) (
     follows_none free = rw (read, free)
 
     -- l was read as the head's label
-    module _ (held : e.reached ≡ true) (roomy : Roomy net ls) (sum l : L) (sum_is_lem : sum ≡ sum_by K n ts run v t) (l_is : l ≡ get_or ls head l) where
+    module _ (held : e.reached ≡ true) (roomy : Roomy net ls) (sum l : L) (sum_is : sum ≡ sum_by K n ts run v t) (l_is : l ≡ get_or ls head l) where
       label_is : l ≡ label K n ts run head
       label_is = get_or_read ls head l (omega (arith, wired.ends.to t known)) l_is K.none
 
       pub follows_by : (b : Bool) → b ≡ K.not_above (K.value sum) (K.value l) → b ≡ follows K n ts run v t
-      follows_by b above = rw (read, held, ← sum_is_lem, ← label_is) above
+      follows_by b above = rw (read, held, ← sum_is, ← label_is) above

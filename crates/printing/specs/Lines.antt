@@ -39,9 +39,9 @@ after_tenth x = cond (x % 10 == 9) newline []
 
 -- the lines of the exchanges below k
 abbrev pub exchange_lines : {L : Type 0} → (L → List ℕ) → (ℕ → Option L) → (ℕ → Option ℕ) → ℕ → List ℕ
-exchange_lines printed charge arrival zero = []
-exchange_lines printed charge arrival (suc x) =
-    exchange_lines printed charge arrival x ++ (exchange_line printed x (charge x) (arrival x) ++ after_tenth x)
+exchange_lines printed label_of arrival_of zero = []
+exchange_lines printed label_of arrival_of (suc x) =
+    exchange_lines printed label_of arrival_of x ++ (exchange_line printed x (label_of x) (arrival_of x) ++ after_tenth x)
 
 -- numbers, each after a space
 abbrev pub each_spaced : List ℕ → List ℕ

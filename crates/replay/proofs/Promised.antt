@@ -295,11 +295,11 @@ module _ {L : Type 0} (K : Kind L) (number n : ℕ) (first : List L) (answers : 
         is
 
     pub leaves_so : ReadsOut K n (book h) read charges charges' arrivals arrivals' looped looped' → Leaves n read charges charges' arrivals arrivals' looped looped'
-    leaves_so (ReadsOut.a_loop {cs = cs} reads is now_is same_c same_a) =
+    leaves_so (ReadsOut.a_loop {cs = cs} _ is now_is same_c same_a) =
         subst (λ (d : Read). Leaves n d charges charges' arrivals arrivals' looped looped') (sym is) (same_c, same_a, ap (drop (length cs)) now_is ∙ drop_at cs (drop (length cs) looped) (length cs) refl)
-    leaves_so (ReadsOut.a_sheet reads is now_is filled_c filled_a) =
+    leaves_so (ReadsOut.a_sheet _ is now_is filled_c filled_a) =
         subst (λ (d : Read). Leaves n d charges charges' arrivals arrivals' looped looped') (sym is) ((filled_c.long, filled_c.kept), (filled_a.long, filled_a.kept), now_is)
-    leaves_so (ReadsOut.nothing reads other is now_is same_c same_a) =
+    leaves_so (ReadsOut.nothing _ other is now_is same_c same_a) =
         subst (λ (d : Read). Leaves n d charges charges' arrivals arrivals' looped looped') (sym is) (same_c, same_a, now_is)
 
   -- a new book
