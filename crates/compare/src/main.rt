@@ -32,10 +32,10 @@ fn try_book<L: Plain>(
     Ok(trial.compare(&least, tally))
 }
 
-// Many books of one kind of length. Ends at the first difference.
-fn try_kind<L: Plain>(rt: &HostRuntime, what: &str) -> anyhow::Result<()> {
+// Many books of one kind of length, from this seed on. Ends at the first difference.
+fn try_kind<L: Plain>(rt: &HostRuntime, what: &str, first: u32) -> anyhow::Result<()> {
     let mut tally = Tally::new();
-    for seed in 0..BOOKS {
+    for seed in first as u64..first as u64 + BOOKS {
         if let Err(difference) = try_book::<L>(rt.alloc(), seed, &mut tally)? {
             println!(rt; "{what}, seed {seed}: {difference:?}")?;
             return Err(anyhow!("the book and the other method differ"));
@@ -46,6 +46,6 @@ fn try_kind<L: Plain>(rt: &HostRuntime, what: &str) -> anyhow::Result<()> {
 }
 
 fn main(rt: HostRuntime) -> anyhow::Result<()> {
-    try_kind::<Charge>(&rt, "charge")?;
-    try_kind::<ChargeDelay>(&rt, "charge with delay")
+    try_kind::<Charge>(&rt, "charge", 0)?;
+    try_kind::<ChargeDelay>(&rt, "charge with delay", 1_000_000)
 }

@@ -202,9 +202,9 @@ impl<L: Plain> Trial<L> {
 fn largest(dice: &mut Dice) -> u64
     ensures { (0 < result) × (result ≤ 256) }
 {
-    match dice.below(40) {
+    match dice.below(16) {
         0 => 256,
-        1..=9 => 40,
+        1..=5 => 40,
         _ => 9,
     }
 }
