@@ -20,13 +20,13 @@ pub enum Shape {
     Random,
     // Each exchange leads to the one before it.
     Chain,
-    // Rows of 16, each exchange with the next and the one below.
+    // Rows of 16, each exchange with the next and the one below; where there is none, with itself.
     Grid,
     // Many trunks between few exchanges.
     Parallel,
     // Each trunk leads back to where it starts.
     Rounds,
-    // Flat-rate pairs.
+    // Pairs, there and back, whose charges cancel.
     Pairs,
     // No trunk between the even and the odd exchanges.
     Islands,
@@ -48,7 +48,7 @@ impl Shape {
 
 // The ends of a trunk in a network of `n` exchanges.
 fn ends(dice: &mut Dice, shape: Shape, n: u16) -> (u16, u16)
-    requires { (0 < n) × (n ≤ 256) }
+    requires { 0 < n }
     ensures { (result.0 < n) × (result.1 < n) }
 {
     let a = dice.below(n as u64) as u16;
@@ -58,7 +58,7 @@ fn ends(dice: &mut Dice, shape: Shape, n: u16) -> (u16, u16)
         Shape::Random => (a, b),
         Shape::Chain => (a, near),
         Shape::Grid => {
-            let next = if b % 2 == 0 { a + 1 } else { a + 16 };
+            let next = a.saturating_add(if b % 2 == 0 { 1 } else { 16 });
             (a, if next < n { next } else { a })
         }
         Shape::Parallel => (a % 4, b % 4),
@@ -88,7 +88,7 @@ fn base(dice: &mut Dice, odds: u64) -> i32
 }
 
 fn make_link(dice: &mut Dice, shape: Shape, n: u16, odds: u64) -> Link
-    requires { (0 < n) × ((n ≤ 256) × (0 < odds)) }
+    requires { (0 < n) × (0 < odds) }
 {
     let (from, to) = ends(dice, shape, n);
     let flat = dice.below(3) == 0;
@@ -109,7 +109,7 @@ fn make_link(dice: &mut Dice, shape: Shape, n: u16, odds: u64) -> Link
     }
 }
 
-// `count` trunks of a network of `n` exchanges; a flat-rate pair counts as one.
+// `count` trunks of a network of `n` exchanges; a pair counts as one.
 pub fn links(
     heap: Global,
     dice: &mut Dice,
@@ -117,7 +117,7 @@ pub fn links(
     n: u16,
     count: usize,
 ) -> Result<Vec<Link>, AllocError>
-    requires { (0 < n) × (n ≤ 256) }
+    requires { 0 < n }
 {
     let mut links = Vec::with_capacity(heap, count)?;
     let odds = 1 + dice.below(200);
@@ -132,7 +132,7 @@ pub fn links(
 }
 
 impl Link {
-    // The other trunk of a pair: together they cost nothing.
+    // The other trunk of a pair: the two charges cancel.
     fn way_back(self) -> Link {
         Link {
             from: self.to,
@@ -148,7 +148,8 @@ impl Link {
         L::of(self.mills, self.delay)
     }
 
+    // The same, told without it.
     pub fn parts<L: Plain>(self) -> Parts {
-        self.length::<L>().parts()
+        L::plain(self.mills, self.delay)
     }
 }

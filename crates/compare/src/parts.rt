@@ -24,12 +24,22 @@ impl Parts {
 pub trait Plain: Length {
     fn of(mills: i32, delay: u16) -> Self;
 
+    // What such a length comes to, told without it.
+    fn plain(mills: i32, delay: u16) -> Parts;
+
     fn parts(self) -> Parts;
 }
 
 impl Plain for Charge {
     fn of(mills: i32, delay: u16) -> Charge {
         Charge::of(mills)
+    }
+
+    fn plain(mills: i32, delay: u16) -> Parts {
+        Parts {
+            mills: mills as i64,
+            delay: 0,
+        }
     }
 
     fn parts(self) -> Parts {
@@ -43,6 +53,13 @@ impl Plain for Charge {
 impl Plain for ChargeDelay {
     fn of(mills: i32, delay: u16) -> ChargeDelay {
         ChargeDelay::of(mills, delay)
+    }
+
+    fn plain(mills: i32, delay: u16) -> Parts {
+        Parts {
+            mills: mills as i64,
+            delay: delay as u64,
+        }
     }
 
     fn parts(self) -> Parts {

@@ -2,11 +2,11 @@ use super::networks::Link;
 use super::parts::{Parts, Plain};
 use std::alloc::{AllocError, Global};
 
-// What plain rounds over all trunks come to: the least sums, or that they fall without end.
+// What plain rounds over all trunks come to: the least sums, or sums that fall without end. What has one is reached.
 #[derive(Drop)]
 pub enum Least {
     Sums(Vec<Option<Parts>>),
-    Endless,
+    Endless(Vec<Option<Parts>>),
 }
 
 // What has been found for exchange `x`, if anything.
@@ -24,8 +24,8 @@ fn less(sums: &[Option<Parts>], link: Link, length: Parts) -> Option<Parts> {
     };
     let sum = so_far.plus(length);
     match sum_at(sums, link.to) {
-        Some(old) => { if sum < old { Some(sum) } else { None } }
-        None => Some(sum),
+        Some(old) if old <= sum => None,
+        _ => Some(sum),
     }
 }
 
@@ -64,5 +64,5 @@ pub fn least_sums<L: Plain>(
             return Ok(Least::Sums(sums));
         }
     }
-    Ok(Least::Endless)
+    Ok(Least::Endless(sums))
 }

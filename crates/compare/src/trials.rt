@@ -4,7 +4,7 @@ use super::dice::Dice;
 use super::networks::{Link, Shape, links};
 use super::parts::{Parts, Plain};
 use super::rounds::{Least, least_sums, sum_at};
-use super::walked::{start_of, walked};
+use super::walked::{apart, start_of, walked};
 use book::making::{MOST_EXCHANGES, MOST_TRUNKS};
 use book::outcome::Ending;
 use book::{Book, Space};
@@ -40,7 +40,7 @@ impl Tally {
 // Where the book and the other method differ.
 #[derive(Clone, Copy, Debug)]
 pub enum Difference {
-    // A call was refused.
+    // A call was refused, or a run given up.
     Refused,
     // One found a loop, and the other did not.
     Verdict,
@@ -48,7 +48,7 @@ pub enum Difference {
     Charge(u16),
     // The route to this exchange is not a walk from home at that charge.
     Route(u16),
-    // The loop is not a closed walk below zero.
+    // The loop is not a closed walk below zero that home reaches, or leaves an exchange twice.
     Loop,
 }
 
@@ -91,7 +91,7 @@ impl<L: Plain> Trial<L> {
             {
                 Err(_) => return Err(Difference::Refused),
                 Ok(t) => {
-                    if !link.open && self.book.bar(&mut self.lengths, t).is_err() {
+                    if !link.open && self.book.bar(&self.lengths, t).is_err() {
                         return Err(Difference::Refused);
                     }
                 }
@@ -128,9 +128,9 @@ impl<L: Plain> Trial<L> {
                 tally.settled = tally.settled.wrapping_add(1);
                 self.compare_charges(sums, tally)
             }
-            (Ok(Ended::Finished(Ending::Loop { .. })), Least::Endless) => {
+            (Ok(Ended::Finished(Ending::Loop { .. })), Least::Endless(sums)) => {
                 tally.loops = tally.loops.wrapping_add(1);
-                self.check_loop()
+                self.check_loop(sums)
             }
             (Ok(Ended::Finished(_)), _) => Err(Difference::Verdict),
             _ => Err(Difference::Refused),
@@ -165,19 +165,13 @@ impl<L: Plain> Trial<L> {
             return Err(Difference::Refused);
         };
         match walked::<L>(&self.links, self.home, &trunks, count) {
-            Some(walk) => {
-                if walk.end == x && walk.length == sum {
-                    Ok(())
-                } else {
-                    Err(Difference::Route(x))
-                }
-            }
-            None => Err(Difference::Route(x)),
+            Some(walk) if walk.end == x && walk.length == sum => Ok(()),
+            _ => Err(Difference::Route(x)),
         }
     }
 
-    // The loop is a closed walk below zero.
-    fn check_loop(&self) -> Result<(), Difference> {
+    // The loop is a closed walk below zero that home reaches, and leaves no exchange twice.
+    fn check_loop(&self, sums: &[Option<Parts>]) -> Result<(), Difference> {
         let mut trunks = [0u16; MOST_EXCHANGES];
         let Ok(count) = self.book.loop_trunks(&self.lengths, &mut trunks) else {
             return Err(Difference::Refused);
@@ -185,16 +179,14 @@ impl<L: Plain> Trial<L> {
         let Some(start) = start_of(&self.links, &trunks) else {
             return Err(Difference::Loop);
         };
-        match walked::<L>(&self.links, start, &trunks, count) {
-            Some(walk) => {
-                if count > 0 && walk.end == start && walk.length < Parts::ZERO {
-                    Ok(())
-                } else {
-                    Err(Difference::Loop)
-                }
-            }
-            None => Err(Difference::Loop),
+        let Some(walk) = walked::<L>(&self.links, start, &trunks, count) else {
+            return Err(Difference::Loop);
+        };
+        let closed = count > 0 && walk.end == start && walk.length < Parts::ZERO;
+        if !closed || sum_at(sums, start).is_none() || !apart(&self.links, &trunks, count) {
+            return Err(Difference::Loop);
         }
+        Ok(())
     }
 }
 

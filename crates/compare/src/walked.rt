@@ -33,3 +33,19 @@ pub fn walked<L: Plain>(links: &[Link], start: u16, trunks: &[u16], count: usize
     }
     Some(walk)
 }
+
+// Whether no two of the first `count` trunks leave the same exchange.
+pub fn apart(links: &[Link], trunks: &[u16], count: usize) -> bool {
+    let mut left = [false; 256];
+    for t in trunks.iter().take(count) {
+        let Some(link) = links.get(*t as usize).copied() else {
+            return false;
+        };
+        let from = link.from as usize;
+        if from >= left.len() || left[from] {
+            return false;
+        }
+        left[from] = true;
+    }
+    true
+}

@@ -11,14 +11,14 @@ use Rattle.book.specs.declared.Phase.TheVariants.{Idle}
 use Rattle.book.specs.declared.refusal.Refusal.TheVariants.{BadSize}
 use Rattle.book.specs.State.{phase_of, state_of}
 use Rattle.tape.specs.declared.faults.RecordFault.{RecordFault}
-use Rattle.tape.specs.declared.faults.RecordFault.TheVariants.{Book as in-book}
+use Rattle.tape.specs.declared.faults.RecordFault.TheVariants.{Book as in_book}
 use Rattle.tape.specs.Faults.{layer_of, number_of}
 use Rattle.printing.specs.Lines.{fault_line}
 use Rattle.sheet.specs.Sheet.{fit_fault}
 use Rattle.sheet.specs.Told.{Form, faulty, told_from, told, new_book, text_of, AllRight, TellsAll}
 
 -- no book of so many exchanges
-misfit : (bad : Bool) (n size : ℕ) → n ≤ size → (f : RecordFault) → Err f ≡ fit_fault bad (ltb size n) → (bad ≡ true) × (f ≡ in-book BadSize)
+misfit : (bad : Bool) (n size : ℕ) → n ≤ size → (f : RecordFault) → Err f ≡ fit_fault bad (ltb size n) → (bad ≡ true) × (f ≡ in_book BadSize)
 misfit true n size room f e = (refl, cc)
 misfit false n size room f e = let short : ltb size n ≡ false = le-ltb size n room in let z : ◌≡◌ {A = ℕ} 0 1 = cc in absurd (omega arith)
 

@@ -6,15 +6,15 @@ use Rattle.tape.specs.declared.faults.RecordFault.{RecordFault}
 use Rattle.tape.specs.declared.faults.RecordFault.TheVariants.{Tape, IllegalMap, BadState}
 use Rattle.tape.specs.declared.faults.TapeFault.TheVariants.{CutShort}
 use Rattle.tape.specs.declared.records.Switch.{Switch}
-use Rattle.tape.specs.declared.records.Switch.TheVariants.{Bar as to-bar, Unbar as to-unbar}
+use Rattle.tape.specs.declared.records.Switch.TheVariants.{Bar as to_bar, Unbar as to_unbar}
 use Rattle.tape.specs.declared.shapes.Shape.{Shape}
 use Rattle.tape.specs.declared.shapes.Shape.TheVariants.{Lay, Reprice, Bar, Home}
 use Rattle.tape.specs.Format.{Item, Found, is_legal, size_of, item_in, legal_state, record_in, record_at}
 use Rattle.tape.specs.Reading.{map_of, state_of}
 
 pub state_legal : (s : Switch) → ltb (state_of s) 2 ≡ true
-state_legal to-bar = refl
-state_legal to-unbar = refl
+state_legal to_bar = refl
+state_legal to_unbar = refl
 
 pub shape_legal : (s : Shape) → is_legal (map_of s) ≡ true
 shape_legal Lay = refl

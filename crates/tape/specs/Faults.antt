@@ -1,6 +1,6 @@
 -- The faults of a tape, by the layer that finds them, and their numbers.
 use Rattle.std.specs.Prelude.{ℕ}
-use Rattle.book.specs.Refusal.{number_of as refusal-number}
+use Rattle.book.specs.Refusal.{number_of as refusal_number}
 use Rattle.tape.specs.declared.faults.TapeFault.{TapeFault}
 use Rattle.tape.specs.declared.faults.TapeFault.TheVariants.{CutShort, NoRoom, TooLong}
 use Rattle.tape.specs.declared.faults.RecordFault.{RecordFault}
@@ -26,4 +26,4 @@ number_of (Tape f) = tape_number f
 number_of UnknownKind = 19
 number_of IllegalMap = 20
 number_of BadState = 21
-number_of (Book k) = refusal-number k
+number_of (Book k) = refusal_number k

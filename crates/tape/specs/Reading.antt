@@ -2,7 +2,7 @@
 use Rattle.std.specs.Prelude.{ℕ, Ok, Err, Result}
 use Rattle.tape.specs.declared.faults.RecordFault.{RecordFault}
 use Rattle.tape.specs.declared.records.Switch.{Switch}
-use Rattle.tape.specs.declared.records.Switch.TheVariants.{Bar as to-bar, Unbar as to-unbar}
+use Rattle.tape.specs.declared.records.Switch.TheVariants.{Bar as to_bar, Unbar as to_unbar}
 use Rattle.tape.specs.declared.records.Record.{Record}
 use Rattle.tape.specs.declared.records.Record.TheVariants.{Lay, Reprice, Bar, Home}
 use Rattle.tape.specs.declared.records.Placed.{Placed}
@@ -10,13 +10,13 @@ use Rattle.tape.specs.declared.heads.LengthKind.{LengthKind}
 use Rattle.tape.specs.declared.heads.LengthKind.TheVariants.{Charge, ChargeDelay}
 use Rattle.tape.specs.declared.heads.Head.{Head}
 use Rattle.tape.specs.declared.shapes.Shape.{Shape}
-use Rattle.tape.specs.declared.shapes.Shape.TheVariants.{Lay as lay-shape, Reprice as reprice-shape, Bar as bar-shape, Home as home-shape}
+use Rattle.tape.specs.declared.shapes.Shape.TheVariants.{Lay as lay_shape, Reprice as reprice_shape, Bar as bar_shape, Home as home_shape}
 use Rattle.tape.specs.Format.{lay_map, reprice_map, bar_map, home_map, Item, lay, reprice, bar, home, Found, Start}
 
 -- 0 bars, 1 opens
 abbrev pub state_of : Switch → ℕ
-state_of to-bar = 0
-state_of to-unbar = 1
+state_of to_bar = 0
+state_of to_unbar = 1
 
 -- a record of the code, whose length is a part of the tape
 abbrev pub item_of : Record → Item
@@ -50,7 +50,7 @@ head_read (Err f) = Err f
 
 -- the map of a form
 abbrev pub map_of : Shape → ℕ
-map_of lay-shape = lay_map
-map_of reprice-shape = reprice_map
-map_of bar-shape = bar_map
-map_of home-shape = home_map
+map_of lay_shape = lay_map
+map_of reprice_shape = reprice_map
+map_of bar_shape = bar_map
+map_of home_shape = home_map
