@@ -1,15 +1,14 @@
 -- What the calls of the code answer, as the rules see it.
-use Rattle.std.specs.Prelude.{ℕ, Some, None, Ok, Err, Option, Result}
+use Rattle.std.specs.Prelude.{ℕ, Bool, true, false, Some, None, Ok, Err, Option, Result}
 use Rattle.routing.specs.Calls.{Answer, refused, shown, says_working, says_settled, says_loop}
 use Rattle.routing.specs.Readings.{Reading, told, denied}
 use Rattle.book.specs.declared.refusal.Refusal.{Refusal}
+use Rattle.book.specs.declared.refusal.Refusal.TheVariants.{BadSize, ShortList}
 use Rattle.book.specs.declared.refusal.Refused.{Refused}
 use Rattle.book.specs.declared.outcome.Progress.{Progress}
 use Rattle.book.specs.declared.outcome.Progress.TheVariants as progress
 use Rattle.book.specs.declared.outcome.Ending.{Ending}
 use Rattle.book.specs.declared.outcome.Ending.TheVariants as ending
-use Rattle.book.specs.declared.outcome.Fitness.{Fitness}
-use Rattle.book.specs.declared.outcome.Fitness.TheVariants.{BadSize, ShortList, Fit}
 use Rattle.book.specs.Refusal.{number_of}
 
 -- the refusal that a check found, if any
@@ -38,11 +37,11 @@ abbrev pub shows_end : Ending → Answer
 shows_end (ending.Settled p s) = shown says_settled p s
 shows_end (ending.Loop p s) = shown says_loop p s
 
--- why so many exchanges and a list cannot make a book
-abbrev pub misfit : Fitness → Option ℕ
-misfit BadSize = Some 1
-misfit ShortList = Some 2
-misfit Fit = None
+-- whether a book can be made: not of a bad size, nor with a list that is too short
+abbrev pub fitness : (bad short : Bool) → Result (Unit {0}) Refusal
+fitness true short = Err BadSize
+fitness false true = Err ShortList
+fitness false false = Ok tt
 
 -- what a reading of the code answers
 abbrev pub reading_of : {A : Type 0} → Result A Refusal → Reading A

@@ -1,9 +1,9 @@
 ghost use Rattle.std.specs.Prelude.{◌≡◌, ℕ, ◌||◌, [], ◌∷◌, length, ◌==◌, nat_lt};
 ghost use Rattle.routing.specs.Refusals.{first_of};
 ghost use Rattle.book.specs.declared.Phase.TheVariants.{Idle};
-ghost use Rattle.book.specs.Answers.{misfit};
+ghost use Rattle.book.specs.Answers.{refusal_in, fitness};
 
-use super::outcome::Fitness;
+use super::refusal::Refusal;
 use super::{Book, Phase, Space};
 use routing::{Length, Verdict};
 use running::Work;
@@ -17,16 +17,17 @@ pub const MOST_EXCHANGES: usize = 256;
 pub const MOST_TRUNKS: usize = 4096;
 
 // Whether `n` exchanges and this length list can make a book.
-pub fn fit<L: Length>(n: usize, lengths: &[L]) -> Fitness
-    ensures { misfit result ≡ first_of ((n == 0 || nat_lt 256 n, 1) ∷ ((nat_lt (length lengths.now) n, 2) ∷ [])) }
+pub fn fit<L: Length>(n: usize, lengths: &[L]) -> Result<(), Refusal>
+    ensures number { refusal_in result ≡ first_of ((n == 0 || nat_lt 256 n, 1) ∷ ((nat_lt (length lengths.now) n, 2) ∷ [])) }
+    ensures fitness { result ≡ fitness (n == 0 || nat_lt 256 n) (nat_lt (length lengths.now) n) }
 {
     if n == 0 || n > MOST_EXCHANGES {
-        return Fitness::BadSize;
+        return Err(Refusal::BadSize);
     }
     if lengths.len() < n {
-        return Fitness::ShortList;
+        return Err(Refusal::ShortList);
     }
-    Fitness::Fit
+    Ok(())
 }
 
 impl Space {

@@ -12,11 +12,3 @@ pub enum Ending {
     Settled { passes: u64, scans: u64 },
     Loop { passes: u64, scans: u64 },
 }
-
-// Whether so many exchanges and a length list can make a book.
-#[derive(Clone, Copy, PartialEq, Eq, Debug)]
-pub enum Fitness {
-    BadSize,
-    ShortList,
-    Fit,
-}
