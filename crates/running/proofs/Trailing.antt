@@ -1,10 +1,16 @@
 -- The way back, counted and then written from its far end.
-use Rattle.std.proofs.Common.{◌≡◌, ℕ, zero, suc, ◌+◌, ◌-◌, ◌<◌, ◌≤◌, Bool, true, false, cond, ◌⊎◌, List, [], ◌∷◌, ◌++◌, length, get_or, take, drop, set, Some, None, Option, sym, refl, ap, ◌∙◌, subst, inl, inr, arith}
+use Rattle.std.specs.Option.{option_eq}
+use Rattle.std.proofs.Common.{◌≡◌, eqb, ℕ, zero, suc, ◌+◌, ◌-◌, ◌<◌, ◌≤◌, Bool, true, false, cond, ◌⊎◌, List, [], ◌∷◌, ◌++◌, length, get_or, take, drop, set, Some, None, Option, sym, refl, ap, ◌∙◌, subst, inl, inr, arith}
 use Rattle.std.proofs.lemmas.List.{length-append, length-take-le, length-drop, take_all, take_more, drop_more, append_assoc, take-append-drop, get_or_append_left, same_from_push, set_at, drop_at, set-append_left}
 use Rattle.std.proofs.lemmas.Bool.{cases_Bool, cond-true, cond-false}
 use Rattle.routing.specs.declared.Trunk.{Trunk}
 use Rattle.routing.specs.Rules.{Entry, unreached, trunk}
 use Rattle.running.specs.Trails.{stops, trail}
+
+-- a test of whether the way back ends at x
+pub stops_is : (stop : Option ℕ) (x : ℕ) → option_eq eqb (Some x) stop ≡ stops stop x
+stops_is None x = refl
+stops_is (Some w) x = refl
 
 module _ (ts : List Trunk) (es : List Entry) (stop : Option ℕ) where
   -- what an exchange at which the way back goes on adds to the trail

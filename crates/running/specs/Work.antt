@@ -5,10 +5,9 @@ use Rattle.routing.specs.declared.Verdict.{Verdict}
 use Rattle.routing.specs.declared.Verdict.TheVariants.{Working, Settled, Looped}
 use Rattle.routing.specs.Lists.{Once, has}
 use Rattle.routing.specs.Rules.{Run, Entry, unreached}
-use Rattle.running.specs.declared.network.Network.{Network}
 use Rattle.running.specs.declared.table.Table.{Table}
 use Rattle.running.specs.declared.Work.{Work}
-use Rattle.running.specs.Network.{trunks_of}
+use Rattle.routing.specs.declared.Trunk.{Trunk}
 use Rattle.running.specs.Table.{seen_all, dues, is_due}
 
 -- the run that the code holds, with its labels in ls
@@ -44,9 +43,9 @@ pub record Marks (n : ℕ) (ds : List Bool) (ws later : List ℕ) : Type 0 where
 abbrev pub SoundOver : ℕ → ℕ → Work → Type 0
 SoundOver n m w = Holds n m w.table w.waiting
 
--- the same over a network
-abbrev pub Sound : Network → Work → Type 0
-Sound net w = SoundOver net.n (length (trunks_of net)) w
+-- the same over n exchanges and these trunks
+abbrev pub Sound : ℕ → List Trunk → Work → Type 0
+Sound n ts w = SoundOver n (length ts) w
 
 -- the marks of a run, while those of `later` have their turn to come
 abbrev pub Marked : ℕ → Work → List ℕ → Type 0

@@ -2,11 +2,13 @@
 #![tactic(auto)]
 
 pub mod beginning;
-pub mod looking;
+pub mod index;
 pub mod network;
 pub mod passing;
 pub mod scanning;
 pub mod table;
+pub mod view;
+pub mod way;
 
 use routing::Verdict;
 

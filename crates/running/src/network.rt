@@ -1,41 +1,31 @@
-ghost use Rattle.std.specs.Prelude.{◌≡◌, ◌<◌, ◌≤◌, length, vec_len, vec_capacity};
-ghost use Rattle.running.specs.Network.{Ends, ChainedFrom};
+ghost use Rattle.std.specs.Prelude.{◌≡◌, ◌<◌, ◌≤◌, length};
+ghost use Rattle.routing.specs.Rules.{leaving};
+ghost use Rattle.running.specs.Network.{Ends, Parted, Leads};
 
-use super::beginning::refill;
 use routing::Trunk;
 
-// What a run is shown of a book: `n` exchanges, the trunks, and the index of the open ones.
+// What a run is shown of a book: `n` exchanges, the trunks, and the open ones by the exchange that they leave.
 #[derive(Clone, Copy)]
 pub struct Network<'a> {
     pub n: usize,
     pub trunks: &'a [Trunk],
-    pub first: &'a [Option<u16>],
-    pub next: &'a [Option<u16>],
+    pub starts: &'a [u16],
+    pub listed: &'a [u16],
+    ghost few: { n ≤ 256 },
+    ghost most: { length trunks.now ≤ 4096 },
+    ghost ends: { Ends n trunks.now },
+    ghost parted: { Parted n starts.now listed.now },
+    ghost leads: { Leads n trunks.now starts.now listed.now },
 }
 
-// The open trunks by the exchange that they leave, lowest number first: `first` by exchange, `next` by trunk.
-#[derive(Drop)]
-pub struct Index {
-    pub first: Vec<Option<u16>>,
-    pub next: Vec<Option<u16>>,
-}
-
-impl Index {
-    pub fn build(&mut self, trunks: &[Trunk], n: usize)
-        requires room { (n ≤ vec_capacity self.old.first) × (length trunks.now ≤ vec_capacity self.old.next) }
-        requires ends { (length trunks.now ≤ 4096) × (Ends n trunks.now) }
-        ensures len { (vec_len self.new.first ≡ n) × (vec_len self.new.next ≡ length trunks.now) }
-        ensures cap { (vec_capacity self.new.first ≡ vec_capacity self.old.first) × (vec_capacity self.new.next ≡ vec_capacity self.old.next) }
-        ensures chained { ChainedFrom 0 n trunks.now self.new.first.items self.new.next.items }
+impl<'a> Network<'a> {
+    // The open trunks that leave `v`, lowest number first.
+    pub fn leaving(self, v: u16) -> &'a [u16]
+        requires { v < self.n }
+        ensures { result.now ≡ leaving self.entry.trunks.now v }
     {
-        refill(&mut self.first, None, n);
-        refill(&mut self.next, None, trunks.len());
-        for t in (0..trunks.len()).rev() {
-            let trunk = trunks[t];
-            if !trunk.barred {
-                self.next[t] = self.first[trunk.from as usize];
-                self.first[trunk.from as usize] = Some(t as u16);
-            }
-        }
+        let from = self.starts[v as usize] as usize;
+        let to = self.starts[v as usize + 1] as usize;
+        &self.listed[from..to]
     }
 }

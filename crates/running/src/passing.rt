@@ -4,13 +4,15 @@ ghost use Rattle.routing.specs.Lists.{has};
 ghost use Rattle.routing.specs.Rules.{Run, is_loop, none_left, passed};
 ghost use Rattle.routing.specs.declared.Verdict.TheVariants.{Working as working, Settled as settled};
 ghost use Rattle.routing.specs.Orders.{Meaning};
-ghost use Rattle.running.specs.Network.{Wired, Roomy, trunks_of};
+ghost use Rattle.running.specs.Network.{Fits};
 ghost use Rattle.running.specs.Table.{is_due, seen_all};
+ghost use Rattle.running.specs.View.{run_in};
 ghost use Rattle.running.specs.Work.{run_of, Sound, Marked, SameRoom};
 
 use super::Work;
 use super::network::Network;
 use super::table::Table;
+use super::view::View;
 use routing::{Length, Verdict};
 
 // An order of scans: which exchanges have their turn in a pass, and in which order.
@@ -19,12 +21,10 @@ pub trait ScanOrder<L: Length> {
     ghost answers: { ℕ → List TrunkOf → Run L → List ℕ → Type 0 };
 
     // Fills `list`, which comes empty and has room for every exchange.
-    fn answer(&self, net: Network<'_>, work: &Work, lengths: &[L], list: &mut Vec<u16>)
-        requires wired { (Wired net) × (Roomy net lengths.now) }
-        requires sound { Sound net work.now }
-        requires room { (list.old.items ≡ []) × (net.n ≤ vec_capacity list.old) }
-        ensures rule { answers net.entry.n (trunks_of net.entry) (run_of work.now lengths.now) list.new.items }
-        ensures meaning { Meaning L.Length.kind net.entry.n (trunks_of net.entry) (run_of work.now lengths.now) list.new.items }
+    fn answer(&self, view: &View<'_, L>, list: &mut Vec<u16>)
+        requires { (list.old.items ≡ []) × (view.now.net.n ≤ vec_capacity list.old) }
+        ensures rule { answers view.now.net.n view.now.net.trunks.now (run_in view.now) list.new.items }
+        ensures meaning { Meaning L.Length.kind view.now.net.n view.now.net.trunks.now (run_in view.now) list.new.items }
         ensures room { vec_capacity list.new ≡ vec_capacity list.old };
 }
 
@@ -67,17 +67,23 @@ impl Work {
         order: &O,
         list: &mut Vec<u16>,
     )
-        requires wired { (Wired net) × ((Roomy net lengths.old) × (net.n ≤ vec_capacity list.old)) }
-        requires sound { Sound net self.old }
+        requires fits { Fits net.n net.trunks.now lengths.old }
+        requires room { net.n ≤ vec_capacity list.old }
+        requires sound { Sound net.n net.trunks.now self.old }
         requires marked { Marked net.n self.old [] }
-        ensures sound { Sound net.entry self.new }
+        ensures sound { Sound net.entry.n net.entry.trunks.now self.new }
         ensures marked { is_loop self.new.verdict ≡ false → Marked net.entry.n self.new [] }
         ensures room { (vec_capacity list.new ≡ vec_capacity list.old) × (SameRoom self.old self.new) }
-        ensures rule { (O.ScanOrder.answers net.entry.n (trunks_of net.entry) (run_of self.old lengths.old) list.new.items) × (Meaning L.Length.kind net.entry.n (trunks_of net.entry) (run_of self.old lengths.old) list.new.items) }
-        ensures does { run_of self.new lengths.new ≡ passed L.Length.kind net.entry.n (trunks_of net.entry) list.new.items (run_of self.old lengths.old) }
+        ensures rule { (O.ScanOrder.answers net.entry.n net.entry.trunks.now (run_of self.old lengths.old) list.new.items) × (Meaning L.Length.kind net.entry.n net.entry.trunks.now (run_of self.old lengths.old) list.new.items) }
+        ensures does { run_of self.new lengths.new ≡ passed L.Length.kind net.entry.n net.entry.trunks.now list.new.items (run_of self.old lengths.old) }
     {
         list.clear();
-        order.answer(net, self, lengths, list);
+        let view = View {
+            net,
+            work: self,
+            lengths,
+        };
+        order.answer(&view, list);
         self.table.mark_all(&self.waiting, false);
         self.table.mark_all(list, true);
         self.waiting.clear();
