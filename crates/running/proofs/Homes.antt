@@ -1,5 +1,5 @@
 -- What holds as a run begins.
-use Rattle.std.proofs.Common.{◌≡◌, ℕ, zero, suc, ◌<◌, ◌≤◌, true, false, eqb, List, [], ◌∷◌, map, get_or, set, replicate, Some, None, vec_items, vec_len, vec_capacity, Option, Vec, sym, refl, ap, ◌∙◌, ⊎_elim, arith}
+use Rattle.std.proofs.Common.{◌≡◌, ℕ, zero, suc, ◌<◌, ◌≤◌, Bool, true, false, eqb, List, [], ◌∷◌, map, get_or, set, replicate, Some, None, vec_items, vec_len, vec_capacity, Option, Vec, sym, refl, ap, ◌∙◌, ⊎_elim, arith}
 use Rattle.std.proofs.lemmas.List.{get_or_past, get_or-set_same, get_or-set_other, get_or-replicate, length-replicate, map-set}
 use Rattle.std.proofs.lemmas.Bool.{both_ways, cases_lt, cases_eq, or_left, or_from, ne_eqb}
 use Rattle.std.specs.declared.alloc.Global.{Global}
@@ -17,6 +17,12 @@ use Rattle.running.specs.Work.{Holds, Marks}
 -- the entries that a run begins with
 abbrev pub blank : Entry
 blank = record { reached = false; arriving = None; due = false }
+
+pub is_blank : (e : Entry) → e.reached ≡ false → e.arriving ≡ None → e.due ≡ false → e ≡ blank
+is_blank e r a d =
+    ap (λ (b : Bool). record { reached = b; arriving = e.arriving; due = e.due }) r
+    ∙ ap (λ (o : Option ℕ). record { reached = false; arriving = o; due = e.due }) a
+    ∙ ap (λ (b : Bool). record { reached = false; arriving = None; due = b }) d
 
 abbrev pub home_entry : Entry
 home_entry = record { reached = true; arriving = None; due = true }

@@ -7,10 +7,8 @@ use Rattle.routing.specs.declared.Trunk.{Trunk}
 use Rattle.routing.specs.Kind.{Kind}
 use Rattle.routing.specs.Rules.{Run, Entry, unreached, is_loop, scanned, turns}
 use Rattle.routing.proofs.Lists.{has_here, has_there}
-use Rattle.running.specs.declared.network.Network.{Network}
 use Rattle.running.specs.declared.table.Table.{Table}
 use Rattle.running.specs.declared.Work.{Work}
-use Rattle.running.specs.Network.{trunks_of}
 use Rattle.running.specs.Table.{dues, seen_all}
 use Rattle.running.specs.Work.{Sound, Marked, Marks, Arrivals, SameRoom, run_of}
 use Rattle.running.proofs.Rooms.{same_room, room_then}
@@ -50,16 +48,10 @@ has_at (x ∷ xs) (suc i) l = has_there (get_or xs i 0) x xs (has_at xs i (le_of
 abbrev pub with_table : Work → Table → Work
 with_table w b = record { table = b; waiting = w.waiting; passes = w.passes; scans = w.scans; verdict = w.verdict }
 
-module _ {L : Type 0} (K : Kind L) (net : Network) (answered : List ℕ) where
-  abbrev n : ℕ
-  n = net.n
-
-  abbrev ts : List Trunk
-  ts = trunks_of net
-
+module _ {L : Type 0} (K : Kind L) (n : ℕ) (ts : List Trunk) (answered : List ℕ) where
   -- from w₀ the first i of the answered had their turn, and it came to w
   pub record Turning (w₀ : Work) (ls₀ : List L) (i : ℕ) (w : Work) (ls : List L) : Type 0 where
-    pub sound : Sound net w
+    pub sound : Sound n ts w
     pub room : SameRoom w₀ w
     pub marked : Marked n w (drop i answered)
     pub run : turns K n ts answered (run_of w₀ ls₀) ≡ turns K n ts (drop i answered) (run_of w ls)
@@ -68,7 +60,7 @@ module _ {L : Type 0} (K : Kind L) (net : Network) (answered : List ℕ) where
   over_all [] r e = refl
   over_all (v ∷ later) r e = cond-true (is_loop r.verdict) r _ e
 
-  pub turning_start : (w : Work) (ls : List L) → Sound net w → Marked n w answered → Turning w ls 0 w ls
+  pub turning_start : (w : Work) (ls : List L) → Sound n ts w → Marked n w answered → Turning w ls 0 w ls
   turning_start w ls s m = record { sound = s; room = same_room w; marked = m; run = refl }
 
   module _ (w₀ : Work) (ls₀ : List L) (i : ℕ) (w : Work) (ls : List L) (before : Turning w₀ ls₀ i w ls) where
@@ -95,7 +87,7 @@ module _ {L : Type 0} (K : Kind L) (net : Network) (answered : List ℕ) where
       marked_here : Marked n w (v ∷ more)
       marked_here = subst (λ xs. Marked n w xs) split before.marked
 
-      pub placed_sound : Sound net (with_table w b)
+      pub placed_sound : Sound n ts (with_table w b)
       placed_sound = record {
         entries = len ∙ before.sound.entries;
         arrivals = subst (λ es. Arrivals (length ts) es) (sym same) before.sound.arrivals;
@@ -111,7 +103,7 @@ module _ {L : Type 0} (K : Kind L) (net : Network) (answered : List ℕ) where
           let long : v < length (dues w.table) = omega (arith, before.sound.entries, w.table.entries.ok.0, length-map (vec_items w.table.entries) (λ a. a.due)) in
           subst (λ ds. Marks n ds (vec_items w.waiting) more) (sym off) (marks_first n (dues w.table) (vec_items w.waiting) more v long o.0 marked_here)
 
-      pub turning_on : v < n → is_loop w.verdict ≡ false → (w' : Work) (ls' : List L) → Sound net w' → SameRoom (with_table w b) w'
+      pub turning_on : v < n → is_loop w.verdict ≡ false → (w' : Work) (ls' : List L) → Sound n ts w' → SameRoom (with_table w b) w'
           → ((later : List ℕ) → Marked n (with_table w b) later → Marked n w' later × (run_of w' ls' ≡ scanned K n ts later v (run_of (with_table w b) ls)))
           → Turning w₀ ls₀ (i + 1) w' ls'
       turning_on inside goes w' ls' s keeps does =

@@ -22,19 +22,15 @@ pub(crate) fn refill<T: Copy>(items: &mut Vec<T>, x: T, n: usize)
 impl Work {
     // A run from `home` begins.
     pub fn begin<L: Length>(&mut self, lengths: &mut [L], n: usize, home: u16)
-        requires home { (home < n) × (n ≤ length lengths.old) }
+        requires home { home < n }
+        requires fits { n ≤ length lengths.old }
         requires room { (n ≤ vec_capacity self.old.table.entries) × (n ≤ vec_capacity self.old.waiting) }
         ensures sound { (m : ℕ) → SoundOver n m self.new }
         ensures marked { Marked n self.new [] }
         ensures room { (vec_capacity self.new.table.entries ≡ vec_capacity self.old.table.entries) × (vec_capacity self.new.waiting ≡ vec_capacity self.old.waiting) }
         ensures does { run_of self.new lengths.new ≡ begun L.Length.kind n [] home lengths.old }
     {
-        let blank = Entry {
-            reached: false,
-            arriving: None,
-            due: false,
-        };
-        refill(&mut self.table.entries, blank, n);
+        refill(&mut self.table.entries, Entry::default(), n);
         self.table.entries[home as usize] = Entry {
             reached: true,
             arriving: None,

@@ -3,7 +3,7 @@ ghost use Rattle.routing.specs.Lists.{has};
 ghost use Rattle.running.specs.Table.{arrived, dues, is_due, seen_all};
 
 // What a run knows of an exchange. `due`: it is in the waiting list, or its turn in this pass is to come.
-#[derive(Clone, Copy)]
+#[derive(Clone, Copy, Default)]
 pub struct Entry {
     pub reached: bool,
     pub arriving: Option<u16>,

@@ -3,7 +3,6 @@ use Rattle.std.proofs.lemmas.List.{length-map}
 use Rattle.routing.specs.declared.Verdict.TheVariants.{Working as working, Settled as settled}
 use Rattle.routing.specs.Lists.{has}
 use Rattle.routing.specs.Rules.{none_left, concluded, turns}
-use Rattle.running.specs.Network.{trunks_of}
 use Rattle.running.specs.Table.{dues, seen, seen_all}
 use Rattle.running.proofs.Moves.{due_inside}
 use Rattle.running.proofs.Begins.{reached_below, marks_begun, holds_begun, run_begun, run_concluded, no_loop_before}
@@ -12,7 +11,7 @@ use Rattle.running.proofs.Work.pass.Goals as goal
 pub mark_all-requires : goal.mark_all-requires
 mark_all-requires g c x h =
     let waits : has x (vec_items c.args.self.now.waiting) ≡ true = rw c.deref.ensures.value at h in
-    let l = due_inside c.args.net.n (length (trunks_of c.args.net)) c.args.self.now.table c.args.self.now.waiting c.requires.sound x (c.requires.sound.waits x waits) in
+    let l = due_inside c.args.net.n (length c.args.net.trunks.now) c.args.self.now.table c.args.self.now.waiting c.requires.sound x (c.requires.sound.waits x waits) in
     omega (arith, c.requires.sound.entries)
 
 pub mark_all-requires-2 : goal.mark_all-requires-2
@@ -24,9 +23,8 @@ mark_all-requires-2 g c x h =
 pub take_turns-requires : goal.take_turns-requires
 take_turns-requires g c =
     record {
-      room = c.requires.wired.1.0;
-      wired = c.requires.wired.0;
-      sound = holds_begun c.args.net.n (length (trunks_of c.args.net)) c.args.self.now.table c.mark_all-2.new.self c.args.self.now.waiting c.clear-2.new.self c.requires.sound
+      fits = c.requires.fits;
+      sound = holds_begun c.args.net.n (length c.args.net.trunks.now) c.args.self.now.table c.mark_all-2.new.self c.args.self.now.waiting c.clear-2.new.self c.requires.sound
           (c.mark_all-2.ensures.seen ∙ c.mark_all.ensures.seen) (c.mark_all-2.ensures.len ∙ c.mark_all.ensures.len) c.clear-2.ensures.items c.clear-2.ensures.capacity;
       marked = rw (c.clear-2.ensures.items, c.deref-3.ensures.value)
           (marks_begun c.args.net.n (dues c.args.self.now.table) (dues c.mark_all.new.self) (dues c.mark_all-2.new.self) (vec_items c.args.self.now.waiting) (vec_items c.answer.new.list) c.requires.marked
@@ -43,7 +41,7 @@ pub returns : goal.returns
 returns g c =
     let K = g.L.Length.kind in
     let n : ℕ = c.args.net.n in
-    let ts = trunks_of c.args.net in
+    let ts = c.args.net.trunks.now in
     let end = c.conclude.ensures in
     let w = c.take_turns.new.self in
     let turned = rw c.deref-3.ensures.value at c.take_turns.ensures.does in

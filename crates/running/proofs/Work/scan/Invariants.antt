@@ -1,13 +1,6 @@
-use Rattle.std.proofs.Common.{◌≡◌, ℕ}
-use Rattle.running.specs.Network.{front, rest, trunks_of}
+use Rattle.std.proofs.Common.{drop}
 use Rattle.running.proofs.Scans.{Going}
-use Rattle.running.proofs.Indexes.{at_most}
 use Rattle.running.proofs.Work.scan.Given as goal
 
-abbrev pub invariant-loop-at : goal.invariant-loop-at
-invariant-loop-at g l =
-    (i : ℕ) × (l.at ≡ front (rest (trunks_of l.net) l.v i))
-    × Going g.L.Length.kind l.net l.v l.initial.self l.initial.lengths i l.self l.lengths
-
-abbrev pub decreases-loop-at : goal.decreases-loop-at
-decreases-loop-at g l = at_most (trunks_of l.net) l.at
+abbrev pub invariant-loop-t : goal.invariant-loop-t
+invariant-loop-t g l = Going g.L.Length.kind l.net.n l.net.trunks.now l.v l.initial.self l.initial.lengths (drop l.t-index l.t-items) l.self l.lengths

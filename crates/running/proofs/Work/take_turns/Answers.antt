@@ -5,14 +5,14 @@ use Rattle.running.proofs.Turns.{has_at, turning_start, turning_over, turning_en
 use Rattle.running.proofs.Work.take_turns.Goals as goal
 
 pub loop-v-init : goal.loop-v-init
-loop-v-init g c = turning_start g.L.Length.kind c.args.net c.args.answered.now c.args.self.now c.args.lengths.now c.requires.sound c.requires.marked
+loop-v-init g c = turning_start g.L.Length.kind c.args.net.n c.args.net.trunks.now c.args.answered.now c.args.self.now c.args.lengths.now c.requires.sound c.requires.marked
 
 pub returns-then-found_loop : goal.returns-then-found_loop
 returns-then-found_loop g c = record {
   sound = c.loop-v.invariant.sound;
   room = c.loop-v.invariant.room;
   marked = λ goes. absurd (both_ways (is_loop c.loop-v.self.verdict) goes (sym c.if-found_loop.ensures));
-  does = turning_over g.L.Length.kind c.args.net c.args.answered.now c.args.self.now c.args.lengths.now c.loop-v.v-index c.loop-v.self c.loop-v.lengths c.loop-v.invariant (sym c.if-found_loop.ensures);
+  does = turning_over g.L.Length.kind c.args.net.n c.args.net.trunks.now c.args.answered.now c.args.self.now c.args.lengths.now c.loop-v.v-index c.loop-v.self c.loop-v.lengths c.loop-v.invariant (sym c.if-found_loop.ensures);
 }
 
 pub mark-requires : goal.mark-requires
@@ -22,19 +22,19 @@ mark-requires g c =
 
 pub scan-requires : goal.scan-requires
 scan-requires g c = record {
-  sizes = (c.requires.once.1 _ (has_at c.args.answered.now c.loop-v.v-index c.loop-v-test.true), omega arith);
-  wired = c.requires.wired;
-  sound = placed_sound g.L.Length.kind c.args.net c.args.answered.now c.args.self.now c.args.lengths.now c.loop-v.v-index c.loop-v.self c.loop-v.lengths c.loop-v.invariant c.loop-v-test.true c.requires.once.0
+  inside = c.requires.once.1 _ (has_at c.args.answered.now c.loop-v.v-index c.loop-v-test.true);
+  fits = omega (arith, c.requires.fits);
+  sound = placed_sound g.L.Length.kind c.args.net.n c.args.net.trunks.now c.args.answered.now c.args.self.now c.args.lengths.now c.loop-v.v-index c.loop-v.self c.loop-v.lengths c.loop-v.invariant c.loop-v-test.true c.requires.once.0
       c.mark.new.self c.mark.ensures.seen c.mark.ensures.dues c.mark.ensures.len c.mark.ensures.cap;
 }
 
 pub loop-v-preserved : goal.loop-v-preserved
 loop-v-preserved g c =
-    turning_on g.L.Length.kind c.args.net c.args.answered.now c.args.self.now c.args.lengths.now c.loop-v.v-index c.loop-v.self c.loop-v.lengths c.loop-v.invariant c.loop-v-test.true c.requires.once.0
+    turning_on g.L.Length.kind c.args.net.n c.args.net.trunks.now c.args.answered.now c.args.self.now c.args.lengths.now c.loop-v.v-index c.loop-v.self c.loop-v.lengths c.loop-v.invariant c.loop-v-test.true c.requires.once.0
     c.mark.new.self c.mark.ensures.seen c.mark.ensures.dues c.mark.ensures.len c.mark.ensures.cap
     (c.requires.once.1 _ (has_at c.args.answered.now c.loop-v.v-index c.loop-v-test.true)) (sym c.if-found_loop.ensures) c.scan.new.self c.scan.new.lengths c.scan.ensures.sound c.scan.ensures.room c.scan.ensures.does
 
 pub returns : goal.returns
 returns g c =
-    let done = turning_end g.L.Length.kind c.args.net c.args.answered.now c.args.self.now c.args.lengths.now c.loop-v.v-index c.loop-v.self c.loop-v.lengths c.loop-v.invariant (omega arith) in
+    let done = turning_end g.L.Length.kind c.args.net.n c.args.net.trunks.now c.args.answered.now c.args.self.now c.args.lengths.now c.loop-v.v-index c.loop-v.self c.loop-v.lengths c.loop-v.invariant (omega arith) in
     record { sound = c.loop-v.invariant.sound; room = c.loop-v.invariant.room; marked = λ goes. done.0; does = done.1 }
