@@ -5,20 +5,13 @@ use Rattle.routing.specs.declared.Trunk.{Trunk}
 use Rattle.routing.specs.Kind.{Kind}
 use Rattle.routing.specs.Rules.{Run, trunk, is_reached, label, sum_by}
 use Rattle.routing.specs.Orders.{follows}
-use Rattle.running.specs.declared.network.Network.{Network}
 use Rattle.running.specs.declared.table.Entry.{Entry}
 use Rattle.running.specs.declared.Work.{Work}
-use Rattle.running.specs.Network.{Wired, Roomy, trunks_of}
+use Rattle.running.specs.Network.{Fits}
 use Rattle.running.specs.Work.{Sound, run_of}
 use Rattle.running.proofs.Tables.{read_seen}
 
-module _ {L : Type 0} (K : Kind L) (net : Network) (work : Work) (ls : List L) (v t : ℕ) where
-  abbrev n : ℕ
-  n = net.n
-
-  abbrev ts : List Trunk
-  ts = trunks_of net
-
+module _ {L : Type 0} (K : Kind L) (n : ℕ) (ts : List Trunk) (work : Work) (ls : List L) (v t : ℕ) where
   abbrev run : Run L
   run = run_of work ls
 
@@ -26,19 +19,19 @@ module _ {L : Type 0} (K : Kind L) (net : Network) (work : Work) (ls : List L) (
   head = (trunk ts t).to
 
   -- e was read as the head's entry
-  module _ (known : t < length ts) (wired : Wired net) (sound : Sound net work) (e : Entry) (is : e ≡ get_or (vec_items work.table.entries) head e) where
+  module _ (head_in : (trunk ts t).to < n) (sound : Sound n ts work) (e : Entry) (is : e ≡ get_or (vec_items work.table.entries) head e) where
     read : is_reached K n ts run head ≡ e.reached
     read =
-        let inside : head < vec_len work.table.entries = omega (arith, wired.ends.to t known, sound.entries) in
+        let inside : head < vec_len work.table.entries = omega (arith, head_in, sound.entries) in
         ap (λ z. z.reached) (read_seen work.table head e inside is)
 
     pub follows_none : e.reached ≡ false → e.reached ≡ follows K n ts run v t
     follows_none free = rw (read, free)
 
     -- l was read as the head's label
-    module _ (held : e.reached ≡ true) (roomy : Roomy net ls) (sum l : L) (sum_is : sum ≡ sum_by K n ts run v t) (l_is : l ≡ get_or ls head l) where
+    module _ (held : e.reached ≡ true) (fits : Fits n ts ls) (sum l : L) (sum_is : sum ≡ sum_by K n ts run v t) (l_is : l ≡ get_or ls head l) where
       label_is : l ≡ label K n ts run head
-      label_is = get_or_read ls head l (omega (arith, wired.ends.to t known)) l_is K.none
+      label_is = get_or_read ls head l (omega (arith, head_in, fits)) l_is K.none
 
       pub follows_by : (b : Bool) → b ≡ K.not_above (K.value sum) (K.value l) → b ≡ follows K n ts run v t
       follows_by b above = rw (read, held, ← sum_is, ← label_is) above

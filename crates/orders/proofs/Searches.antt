@@ -10,9 +10,7 @@ use Rattle.routing.specs.Rules.{Run}
 use Rattle.routing.specs.Orders.{Search, has_improving, visit, topological}
 use Rattle.routing.proofs.Facts.{has_pushed}
 use Rattle.routing.proofs.Topological.{tried, empty}
-use Rattle.running.specs.declared.network.Network.{Network}
 use Rattle.running.specs.declared.Work.{Work}
-use Rattle.running.specs.Network.{trunks_of}
 use Rattle.running.specs.Work.{Sound, run_of}
 use Rattle.running.proofs.Homes.{same_all}
 use Rattle.running.proofs.Moves.{due_inside, has_push_same}
@@ -26,13 +24,7 @@ unmarked_none (suc n) = ap suc (unmarked_none n)
 pub no_marks : (n : ℕ) → n ≤ 256 → take (n - 0) (drop 0 (replicate 256 false)) ≡ replicate n false
 no_marks n few = let same : n - 0 ≡ n = omega arith in rw same (take-replicate n 256 false few)
 
-module _ {L : Type 0} (K : Kind L) (net : Network) (work : Work) (ls : List L) where
-  abbrev n : ℕ
-  n = net.n
-
-  abbrev ts : List Trunk
-  ts = trunks_of net
-
+module _ {L : Type 0} (K : Kind L) (n : ℕ) (ts : List Trunk) (work : Work) (ls : List L) where
   abbrev r : Run L
   r = run_of work ls
 
@@ -63,7 +55,7 @@ module _ {L : Type 0} (K : Kind L) (net : Network) (work : Work) (ls : List L) w
   module _ (list₀ : Vec ℕ Global) (left : List ℕ) (marks : List Bool) (list : Vec ℕ Global) (before : Taking list₀ left marks list) where
     -- v is the next
     module _ (v : ℕ) (more : List ℕ) (split : left ≡ more ++ (v ∷ [])) where
-      pub next_inside : Sound net work → v < n
+      pub next_inside : Sound n ts work → v < n
       next_inside sound =
           let waits : has v r.waiting ≡ true = before.waits v (ap (λ xs. has v xs) split ∙ has_push_same v more) in
           due_inside n (length ts) work.table work.waiting sound v (sound.waits v waits)

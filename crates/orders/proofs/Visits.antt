@@ -11,8 +11,6 @@ use Rattle.routing.specs.Rules.{Run, trunk, leaving}
 use Rattle.routing.specs.Orders.{Search, follows, visit}
 use Rattle.routing.proofs.Lists.{has_here}
 use Rattle.routing.proofs.Topological.{along, marked}
-use Rattle.running.specs.declared.network.Network.{Network}
-use Rattle.running.specs.Network.{rest, trunks_of}
 use Rattle.orders.specs.Marks.{unmarked, Stands, Visits}
 
 -- a new mark
@@ -23,31 +21,25 @@ unmarked_set (false ∷ ms) zero inside free = refl
 unmarked_set (true ∷ ms) (suc x) inside free = unmarked_set ms x (omega arith) free
 unmarked_set (false ∷ ms) (suc x) inside free = ap suc (unmarked_set ms x (omega arith) free)
 
-module _ {L : Type 0} (K : Kind L) (net : Network) (r : Run L) (v : ℕ) where
-  abbrev n : ℕ
-  n = net.n
+module _ {L : Type 0} (K : Kind L) (n : ℕ) (ts : List Trunk) (r : Run L) (v : ℕ) where
+  -- each search that marks₀ and list₀ stand for goes on as one that marks and list stand for, with the trunks `left` to follow
+  abbrev pub Runs : (marks₀ : List Bool) (list₀ : Vec ℕ Global) (left : List ℕ) (marks : List Bool) (list : Vec ℕ Global) → Type 0
+  Runs marks₀ list₀ left marks list = (k : ℕ) (s : Search K n ts) → unmarked marks₀ ≤ k → Stands K n ts marks₀ (vec_items list₀) s
+      → (a : Search K n ts) × Stands K n ts marks (vec_items list) a × (fold (along K n ts r k v) s (leaving ts v) ≡ fold (along K n ts r k v) a left)
 
-  abbrev ts : List Trunk
-  ts = trunks_of net
-
-  -- each search that marks₀ and list₀ stand for goes on as one that marks and list stand for, with the trunks from i on to follow
-  abbrev pub Runs : (marks₀ : List Bool) (list₀ : Vec ℕ Global) (i : ℕ) (marks : List Bool) (list : Vec ℕ Global) → Type 0
-  Runs marks₀ list₀ i marks list = (k : ℕ) (s : Search K n ts) → unmarked marks₀ ≤ k → Stands K n ts marks₀ (vec_items list₀) s
-      → (a : Search K n ts) × Stands K n ts marks (vec_items list) a × (fold (along K n ts r k v) s (leaving ts v) ≡ fold (along K n ts r k v) a (rest ts v i))
-
-  -- the trunks below i were followed
-  pub record Going (marks₀ : List Bool) (list₀ : Vec ℕ Global) (i : ℕ) (marks : List Bool) (list : Vec ℕ Global) : Type 0 where
+  -- the trunks were followed but those of `left`
+  pub record Going (marks₀ : List Bool) (list₀ : Vec ℕ Global) (left : List ℕ) (marks : List Bool) (list : Vec ℕ Global) : Type 0 where
     pub fewer : unmarked marks ≤ unmarked marks₀
     pub counts : vec_len list + unmarked marks ≡ vec_len list₀ + unmarked marks₀
     pub cap : vec_capacity list ≡ vec_capacity list₀
-    pub run : Runs marks₀ list₀ i marks list
+    pub run : Runs marks₀ list₀ left marks list
 
-  pub going_start : (marks : List Bool) (list : Vec ℕ Global) → Going marks list 0 marks list
+  pub going_start : (marks : List Bool) (list : Vec ℕ Global) → Going marks list (leaving ts v) marks list
   going_start marks list = record { fewer = omega arith; counts = refl; cap = refl; run = λ k s low st. (s, st, refl) }
 
-  module _ (marks₀ : List Bool) (list₀ : Vec ℕ Global) (i : ℕ) (marks : List Bool) (list : Vec ℕ Global) (before : Going marks₀ list₀ i marks list) where
+  module _ (marks₀ : List Bool) (list₀ : Vec ℕ Global) (left : List ℕ) (marks : List Bool) (list : Vec ℕ Global) (before : Going marks₀ list₀ left marks list) where
     -- t is the first of what is left, and leads to one of the exchanges
-    module _ (t : ℕ) (split : rest ts v i ≡ t ∷ rest ts v (t + 1)) (inside : (trunk ts t).to < n) where
+    module _ (t : ℕ) (more : List ℕ) (split : left ≡ t ∷ more) (inside : (trunk ts t).to < n) where
       abbrev w : ℕ
       w = (trunk ts t).to
 
@@ -56,13 +48,13 @@ module _ {L : Type 0} (K : Kind L) (net : Network) (r : Run L) (v : ℕ) where
 
       run_on : (marks' : List Bool) (list' : Vec ℕ Global)
           → ((k : ℕ) (a : Search K n ts) → unmarked marks ≤ k → Stands K n ts marks (vec_items list) a → Stands K n ts marks' (vec_items list') (along K n ts r k v a t))
-          → Runs marks₀ list₀ (t + 1) marks' list'
+          → Runs marks₀ list₀ more marks' list'
       run_on marks' list' step k s low st =
           let (a, sa, e) = before.run k s low st in
           let less : unmarked marks ≤ unmarked marks₀ = before.fewer in
           (along K n ts r k v a t, step k a (omega arith) sa, e ∙ ap (λ us. fold (along K n ts r k v) a us) split)
 
-      pub going_skip : (get_or marks w false ≡ true) ⊎ (follows K n ts r v t ≡ false) → Going marks₀ list₀ (t + 1) marks list
+      pub going_skip : (get_or marks w false ≡ true) ⊎ (follows K n ts r v t ≡ false) → Going marks₀ list₀ more marks list
       going_skip why = record {
         fewer = before.fewer;
         counts = before.counts;
@@ -78,7 +70,7 @@ module _ {L : Type 0} (K : Kind L) (net : Network) (r : Run L) (v : ℕ) where
       pub going_visit : get_or marks w false ≡ false → follows K n ts r v t ≡ true → (marks' : List Bool) (list' : Vec ℕ Global)
           → unmarked marks' < unmarked marks → vec_len list' + unmarked marks' ≡ vec_len list + unmarked marks → vec_capacity list' ≡ vec_capacity list
           → Visits K n ts r w marks (vec_items list) marks' (vec_items list')
-          → Going marks₀ list₀ (t + 1) marks' list'
+          → Going marks₀ list₀ more marks' list'
       going_visit free follow marks' list' less same room does = record {
         fewer = omega (arith, before.fewer);
         counts = same ∙ before.counts;
@@ -99,11 +91,11 @@ module _ {L : Type 0} (K : Kind L) (net : Network) (r : Run L) (v : ℕ) where
       listed = st.listed;
     }
 
-    pub visit_done : (i : ℕ) (marks : List Bool) (list : Vec ℕ Global) → Going (set marks₀ v true) list₀ i marks list → rest ts v i ≡ []
+    pub visit_done : (left : List ℕ) (marks : List Bool) (list : Vec ℕ Global) → Going (set marks₀ v true) list₀ left marks list → left ≡ []
         → (items : List ℕ) → items ≡ vec_items list ++ (v ∷ [])
         → Visits K n ts r v marks₀ (vec_items list₀) marks items
-    visit_done i marks list going none items pushed zero s low st = absurd (omega (arith, unmarked_set marks₀ v inside fresh))
-    visit_done i marks list going none items pushed (suc k) s low st =
+    visit_done left marks list going none items pushed zero s low st = absurd (omega (arith, unmarked_set marks₀ v inside fresh))
+    visit_done left marks list going none items pushed (suc k) s low st =
         let (a, sa, e) = going.run k (marked K n ts r v s) (omega (arith, unmarked_set marks₀ v inside fresh)) (stands_marked s st) in
         let all : fold (along K n ts r k v) (marked K n ts r v s) (leaving ts v) ≡ a = e ∙ ap (λ us. fold (along K n ts r k v) a us) none in
         subst (λ (z : Search K n ts). Stands K n ts marks items (record { seen = z.seen; list = v ∷ z.list })) (sym all) (record {

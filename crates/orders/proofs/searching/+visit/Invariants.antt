@@ -1,7 +1,5 @@
-use Rattle.std.proofs.Common.{◌≡◌, ℕ}
-use Rattle.running.specs.Network.{front, rest, trunks_of}
-use Rattle.running.specs.Work.{run_of}
-use Rattle.running.proofs.Indexes.{at_most}
+use Rattle.std.proofs.Common.{drop}
+use Rattle.running.specs.View.{run_in}
 use Rattle.orders.specs.Marks.{unmarked}
 use Rattle.orders.proofs.Visits.{Going}
 use Rattle.orders.proofs.searching.+visit.Given as goal
@@ -9,10 +7,5 @@ use Rattle.orders.proofs.searching.+visit.Given as goal
 abbrev pub decreases-visit : goal.decreases-visit
 decreases-visit g l = unmarked l.marks.now
 
-abbrev pub invariant-loop-at : goal.invariant-loop-at
-invariant-loop-at g l =
-    (i : ℕ) × (l.at ≡ front (rest (trunks_of l.net) l.v i))
-    × Going g.L.Length.kind l.net (run_of l.work l.lengths) l.v l.initial.marks l.initial.list i l.marks l.list
-
-abbrev pub decreases-loop-at : goal.decreases-loop-at
-decreases-loop-at g l = at_most (trunks_of l.net) l.at
+abbrev pub invariant-loop-t : goal.invariant-loop-t
+invariant-loop-t g l = Going g.L.Length.kind l.view.net.n l.view.net.trunks.now (run_in l.view) l.v l.initial.marks l.initial.list (drop l.t-index l.t-items) l.marks l.list
