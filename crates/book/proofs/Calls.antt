@@ -1,5 +1,5 @@
 -- What the calls promise, from the checks that they made and the fields that they wrote.
-use Rattle.std.proofs.Common.{◌≡◌, ℕ, ◌+◌, ◌<◌, Bool, true, false, List, [], ◌∷◌, ◌++◌, length, get_or, set, Some, None, vec_items, vec_len, sym, refl, ap, ◌∙◌, arith}
+use Rattle.std.proofs.Common.{◌≡◌, ℕ, ◌+◌, ◌<◌, Bool, true, false, cond, List, [], ◌∷◌, ◌++◌, length, get_or, set, Some, None, vec_items, vec_len, sym, refl, ap, ◌∙◌, arith}
 use Rattle.std.proofs.lemmas.List.{get_or_read}
 use Rattle.routing.specs.declared.Trunk.{Trunk}
 use Rattle.routing.specs.Kind.{Kind}
@@ -51,10 +51,18 @@ module _ {L : Type 0} (K : Kind L) (b : Book) (ls : List L) where
       ap (λ (a : Trunk). set (vec_items b.trunks) t (record { from = a.from; to = a.to; barred = x }))
       (get_or_read (vec_items b.trunks) t old (omega (arith, b.trunks.ok.0)) is no_trunk)
 
-  pub barred_so : (t : ℕ) (old : Trunk) → t < vec_len b.trunks → old ≡ get_or (vec_items b.trunks) t old → None ≡ refusal K s (bar t)
-      → Serves K R s (bar t) done (changed_to (set (vec_items b.trunks) t (record { from = old.from; to = old.to; barred = true })) ls)
-  barred_so t old low is none = serves_accepted K R s (λ ts r a m. m) (bar t) done _ (edit (barred t)) none refl (ap (λ (xs : List Trunk). changed_to xs ls) (bar_to_is true t old low is)) refl
+  -- closed or opened: an accepted call has a trunk that is laid
+  pub known_trunk : (t : ℕ) → None ≡ refusal K s (bar t) → t < vec_len b.trunks
+  known_trunk t none = let ok = may_do (bar t) (edit (barred t)) none refl in omega (arith, ok.2, b.trunks.ok.0)
 
-  pub unbarred_so : (t : ℕ) (old : Trunk) → t < vec_len b.trunks → old ≡ get_or (vec_items b.trunks) t old → None ≡ refusal K s (unbar t)
-      → Serves K R s (unbar t) done (changed_to (set (vec_items b.trunks) t (record { from = old.from; to = old.to; barred = false })) ls)
-  unbarred_so t old low is none = serves_accepted K R s (λ ts r a m. m) (unbar t) done _ (edit (unbarred t)) none refl (ap (λ (xs : List Trunk). changed_to xs ls) (bar_to_is false t old low is)) refl
+  abbrev switch : Bool → ℕ → Call L
+  switch x t = cond x (bar t) (unbar t)
+
+  pub switch_refused : (x : Bool) (t : ℕ) (k : ℕ) → Some k ≡ refusal K s (bar t) → Serves K R s (switch x t) (refused k) s
+  switch_refused true t k why = refused_so (bar t) k why
+  switch_refused false t k why = refused_so (unbar t) k why
+
+  pub switched_so : (x : Bool) (t : ℕ) (old : Trunk) → t < vec_len b.trunks → old ≡ get_or (vec_items b.trunks) t old → None ≡ refusal K s (bar t)
+      → Serves K R s (switch x t) done (changed_to (set (vec_items b.trunks) t (record { from = old.from; to = old.to; barred = x })) ls)
+  switched_so true t old low is none = serves_accepted K R s (λ ts r a m. m) (bar t) done _ (edit (barred t)) none refl (ap (λ (xs : List Trunk). changed_to xs ls) (bar_to_is true t old low is)) refl
+  switched_so false t old low is none = serves_accepted K R s (λ ts r a m. m) (unbar t) done _ (edit (unbarred t)) none refl (ap (λ (xs : List Trunk). changed_to xs ls) (bar_to_is false t old low is)) refl

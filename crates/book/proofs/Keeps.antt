@@ -1,21 +1,20 @@
 -- From what a book holds to what the steps ask, and back.
-use Rattle.std.proofs.Common.{◌≡◌, ℕ, ◌+◌, ◌<◌, ◌≤◌, Bool, true, false, not, ◌||◌, ltb, List, [], ◌∷◌, ◌++◌, length, Some, None, vec_items, vec_len, Option, Vec, sym, refl, ap, ◌∙◌, subst, ⊎_elim, arith, Bor}
+use Rattle.std.proofs.Common.{◌≡◌, ℕ, ◌+◌, ◌<◌, ◌≤◌, Bool, true, false, ◌||◌, ltb, [], ◌∷◌, ◌++◌, length, Some, None, vec_items, vec_len, Option, Vec, sym, refl, ◌∙◌, ⊎_elim, arith}
 use Rattle.std.proofs.lemmas.List.{get_or_append_left, get_or_push, nil_from_length}
-use Rattle.std.proofs.lemmas.Bool.{and_parts, and_from, not-true, not_from_false, both_ways, cases_lt, eqb-true, eq-eqb, ltb-true, lt-ltb}
+use Rattle.std.proofs.lemmas.Bool.{and_parts, and_from, both_ways, cases_lt, ltb-true, lt-ltb}
 use Rattle.std.specs.declared.alloc.Global.{Global}
 use Rattle.routing.specs.declared.Trunk.{Trunk}
 use Rattle.routing.specs.declared.Verdict.{Verdict}
 use Rattle.routing.specs.declared.Verdict.TheVariants.{Working, Settled, Looped}
-use Rattle.routing.specs.Lists.{Once, has}
+use Rattle.routing.specs.Lists.{has}
 use Rattle.routing.specs.Rules.{is_loop, trunk, no_trunk}
-use Rattle.running.specs.declared.network.Index.{Index}
+use Rattle.running.specs.declared.index.Index.{Index}
 use Rattle.running.specs.declared.Work.{Work}
-use Rattle.running.specs.Network.{Ends, ChainedFrom, Wired}
 use Rattle.running.specs.Work.{SoundOver, Marked, names_inside}
 use Rattle.book.specs.declared.Phase.{Phase}
-use Rattle.book.specs.declared.Phase.TheVariants.{Idle, Running, Standing}
+use Rattle.book.specs.declared.Phase.TheVariants.{Idle}
 use Rattle.book.specs.declared.Book.{Book}
-use Rattle.book.specs.Held.{has_run, once, same, in_run, Roomy, Spare, Laid, Seated, Indexed, Firsts, Nexts, Rests, Tells, Calm, Names}
+use Rattle.book.specs.Held.{has_run, Roomy, Spare, Laid, Seated, Indexed, Rests, Tells, Calm, Names}
 
 -- all that a book holds
 abbrev pub Whole : Phase → ℕ → Vec Trunk Global → Index → Work → Vec ℕ Global → Type 0
@@ -26,8 +25,6 @@ Whole p n ts ix w list =
       laid : Laid n ts;
       seated : Seated p n w;
       indexed : Indexed p n ts ix;
-      firsts : Firsts p n ts ix;
-      nexts : Nexts p ts ix;
       rests : Rests (vec_len ts) w;
       tells : Tells n w;
       names : Names n ts w;
@@ -42,8 +39,6 @@ whole_idle n ts ix w list roomy spare laid rests tells names = record {
   laid = laid;
   seated = λ e. absurd (both_ways false refl e);
   indexed = λ e. absurd (both_ways false refl e);
-  firsts = λ v l. absurd (omega arith);
-  nexts = λ t l. absurd (omega arith);
   rests = rests;
   tells = tells;
   names = names;
@@ -65,7 +60,7 @@ module _ (w : Work) (entries : vec_len w.table.entries ≡ 0) (waiting : vec_len
         absurd (omega arith)),
     (λ x h. absurd (both_ways false refl (rw none_waits at h))),
     (λ x h. absurd (both_ways false refl (rw none_waits at h))),
-    ap once none_waits,
+    rw none_waits tt,
   )
 
   pub tells_empty : (n : ℕ) → Tells n w
@@ -75,16 +70,15 @@ module _ (w : Work) (entries : vec_len w.table.entries ≡ 0) (waiting : vec_len
 pub laid_push : (n : ℕ) (ts ts' : Vec Trunk Global) (new : Trunk) → vec_items ts' ≡ vec_items ts ++ (new ∷ []) → vec_len ts' ≡ vec_len ts + 1
     → new.from < n → new.to < n → vec_len ts < 4096 → Laid n ts → Laid n ts'
 laid_push n ts ts' new items long from to few l =
-    let own = ts.ok.0 in
-    let at : (t : ℕ) → t < vec_len ts' → ((trunk (vec_items ts') t).from < n) × ((trunk (vec_items ts') t).to < n) =
+    let at : (t : ℕ) → t < length (vec_items ts') → ((trunk (vec_items ts') t).from < n) × ((trunk (vec_items ts') t).to < n) =
     λ t k. rw items
     (⊎_elim
-    (λ (old : t < length (vec_items ts)). rw (get_or_append_left (vec_items ts) (new ∷ []) no_trunk t old) (l.0 t (omega arith), l.1 t (omega arith)))
+    (λ (old : t < length (vec_items ts)). rw (get_or_append_left (vec_items ts) (new ∷ []) no_trunk t old) (l.0.0 t old, l.0.1 t old))
     (λ (past : length (vec_items ts) ≤ t).
-    let e : length (vec_items ts) ≡ t = omega arith in
+    let e : length (vec_items ts) ≡ t = omega (arith, ts.ok.0, ts'.ok.0) in
     rw (get_or_push (vec_items ts) new no_trunk t e) (from, to))
     (cases_lt t (length (vec_items ts)))) in
-    (λ t k. (at t k).0, λ t k. (at t k).1, omega arith)
+    (((λ t k. (at t k).0), (λ t k. (at t k).1)), omega arith)
 
 pub rests_push : (m k : ℕ) (w : Work) → k ≡ m + 1 → Rests m w → Rests k w
 rests_push m k w e r = (λ x t h. omega (arith, r.0 x t h), r.1, r.2, r.3)
@@ -109,76 +103,20 @@ names_none n m (Looped v t) free = absurd (both_ways true free refl)
 pub names_calm : (n : ℕ) (ts : Vec Trunk Global) (w : Work) → Calm w → Names n ts w
 names_calm n ts w free = names_none n (vec_len ts) w.verdict free
 
--- tests and the facts that they stand for
-once_true : (xs : List ℕ) → once xs ≡ true → Once xs
-once_true [] e = tt
-once_true (x ∷ xs) e = let p = and_parts (not (has x xs)) (once xs) e in (not-true (has x xs) p.0, once_true xs p.1)
-
-true_once : (xs : List ℕ) → Once xs → once xs ≡ true
-true_once [] o = refl
-true_once (x ∷ xs) o = and_from (not (has x xs)) (once xs) (not_from_false (has x xs) o.0) (true_once xs o.1)
-
-same_to : (a b : Option ℕ) → same a b ≡ true → a ≡ b
-same_to None None e = refl
-same_to None (Some b) e = absurd (both_ways false refl e)
-same_to (Some a) None e = absurd (both_ways false refl e)
-same_to (Some a) (Some b) e = ap (λ (x : ℕ). Some x) (eqb-true a b e)
-
-same_self : (a : Option ℕ) → same a a ≡ true
-same_self None = refl
-same_self (Some a) = eq-eqb a a refl
-
-same_from : (a b : Option ℕ) → a ≡ b → same a b ≡ true
-same_from a b e = subst (λ (x : Option ℕ). same a x ≡ true) e (same_self a)
-
 or_false : (b : Bool) → (b || false) ≡ b
 or_false true = refl
 or_false false = refl
 
-pub ends_of : (n : ℕ) (ts : Vec Trunk Global) → Laid n ts → Ends n (vec_items ts)
-ends_of n ts l = let long = ts.ok.0 in record { from = λ t k. l.0 t (omega arith); to = λ t k. l.1 t (omega arith) }
-
--- the index from what the steps say of it
-module _ (n home : ℕ) (ts : Vec Trunk Global) (ix : Index) (c : ChainedFrom 0 n (vec_items ts) (vec_items ix.first) (vec_items ix.next)) where
-  pub firsts_from : Firsts (Running home) n ts ix
-  firsts_from v l = same_from _ _ (c.first v l)
-
-  pub nexts_from : Nexts (Running home) ts ix
-  nexts_from t l open_so = same_from _ _ (c.next t (omega arith) (omega (arith, ts.ok.0)) open_so)
-
-in_run_so : (p : Phase) (k : ℕ) → has_run p ≡ true → in_run p k ≡ k
-in_run_so Idle k e = absurd (both_ways false refl e)
-in_run_so (Running home) k e = refl
-in_run_so (Standing home) k e = refl
-
 -- what the steps ask of a run
-module _ (b : Book) (runs : has_run b.phase ≡ true) where
-  pub chained_of : ChainedFrom 0 b.n (vec_items b.trunks) (vec_items b.index.first) (vec_items b.index.next)
-  chained_of = record {
-    first = λ v l. same_to _ _ (b.firsts v (omega (arith, in_run_so b.phase b.n runs)));
-    next = λ t from below open_so. same_to _ _ (b.nexts t (omega (arith, in_run_so b.phase (vec_len b.trunks) runs, b.trunks.ok.0)) open_so);
-  }
-
-  pub sound_of : SoundOver b.n (vec_len b.trunks) b.work
-  sound_of = record {
-    entries = (b.seated runs).2;
-    arrivals = b.rests.0;
-    waits = b.rests.1;
-    reached = b.rests.2;
-    once = once_true (vec_items b.work.waiting) b.rests.3;
-    room = let few = (b.seated runs).1 in omega (arith, b.spare.0);
-  }
-
-  pub wired_of : (ts : Bor (List Trunk)) (fs ns : Bor (List (Option ℕ))) → ts.now ≡ vec_items b.trunks → fs.now ≡ vec_items b.index.first → ns.now ≡ vec_items b.index.next
-      → Wired (record { n = b.n; trunks = ts; first = fs; next = ns })
-  wired_of ts fs ns et ef en = record {
-    few = (b.seated runs).1;
-    most = rw et (omega (arith, b.laid.2, b.trunks.ok.0));
-    ends = rw et (ends_of b.n b.trunks b.laid);
-    firsts = rw ef (sym b.index.first.ok.0 ∙ (b.indexed runs).0);
-    nexts = rw (et, en) (omega (arith, (b.indexed runs).1, b.trunks.ok.0, b.index.next.ok.0));
-    chained = rw (et, ef, en) chained_of;
-  }
+pub sound_of : (b : Book) → has_run b.phase ≡ true → SoundOver b.n (vec_len b.trunks) b.work
+sound_of b runs = record {
+  entries = (b.seated runs).2;
+  arrivals = b.rests.0;
+  waits = b.rests.1;
+  reached = b.rests.2;
+  once = b.rests.3;
+  room = let few = (b.seated runs).1 in omega (arith, b.spare.0);
+}
 
 pub marked_of : (n : ℕ) (w : Work) → Tells n w → is_loop w.verdict ≡ false → Marked n w []
 marked_of n w tells goes = record {
@@ -188,7 +126,7 @@ marked_of n w tells goes = record {
 
 -- what a book holds, from what the steps say of its run
 pub rests_from : (n m : ℕ) (w : Work) → SoundOver n m w → Rests m w
-rests_from n m w s = (s.arrivals, s.waits, s.reached, true_once (vec_items w.waiting) s.once)
+rests_from n m w s = (s.arrivals, s.waits, s.reached, s.once)
 
 pub tells_from : (n : ℕ) (w : Work) → (is_loop w.verdict ≡ false → Marked n w []) → Tells n w
 tells_from n w m goes x l = (m goes).due x l ∙ or_false (has x (vec_items w.waiting))

@@ -12,11 +12,11 @@ use Rattle.routing.specs.Promise.{ReadsSo}
 use Rattle.routing.specs.Refusals.{first_of}
 use Rattle.routing.specs.Readings.{told, denied, unless, of_finished, asked, fine, settled_at, no_room, charge_of, arrival_of, route_of, between, loop_of, charge, arrival, route, loop}
 use Rattle.routing.proofs.Readings.{Allowed, allows, read_on, denies, unless_free, unless_some, reads_rightly}
-use Rattle.running.specs.declared.network.Network.{Network}
-use Rattle.running.specs.Network.{Wired, trunks_of}
+use Rattle.running.specs.declared.way.Way.{Way}
+use Rattle.running.specs.declared.table.Table.{Table}
 use Rattle.running.specs.Table.{seen_all}
 use Rattle.running.specs.Trails.{trail}
-use Rattle.running.specs.Work.{run_of, Arrivals, names_inside}
+use Rattle.running.specs.Work.{run_of, names_inside}
 use Rattle.book.specs.declared.Phase.TheVariants.{Idle, Running, Standing}
 use Rattle.book.specs.declared.Phase.{Phase as Stage}
 use Rattle.book.specs.declared.Book.{Book}
@@ -26,7 +26,6 @@ use Rattle.book.specs.Held.{has_run}
 use Rattle.book.specs.Refusal.{number_of}
 use Rattle.book.specs.State.{phase_of, state_of}
 use Rattle.book.specs.Written.{Wrote, WritesSo}
-use Rattle.book.proofs.Keeps.{wired_of}
 
 -- the trails of the code are those of the rules
 module _ {L : Type 0} (ts : List Trunk) (r : Run L) where
@@ -78,19 +77,20 @@ module _ {L : Type 0} (K : Kind L) (b : Book) (ls : List L) where
   held (Running h) home r e = let z : ◌≡◌ {A = ℕ} 0 1 = cc in absurd (omega arith)
   held (Standing h) home r e = let same : r₀ ≡ r = cc in (sym same, refl)
 
-  -- a network that shows the book
-  module _ (net : Network) (size : net.n ≡ b.n) (et : net.trunks.now ≡ ts) (ef : net.first.now ≡ vec_items b.index.first) (en : net.next.now ≡ vec_items b.index.next) where
-    pub net_wired : has_run b.phase ≡ true → Wired net
-    net_wired runs = subst (λ (k : ℕ). Wired (record { n = k; trunks = net.trunks; first = net.first; next = net.next })) (sym size) (wired_of b runs net.trunks net.first net.next et ef en)
+  -- a way that shows the book: its trails are those of the run that is held
+  pub way_trail : (way : Way) → way.net.n ≡ b.n → way.net.trunks.now ≡ ts → way.table.now ≡ b.work.table → (stop : Option ℕ) (x : ℕ)
+      → trail way.net.n way.net.trunks.now (seen_all way.table.now) stop x ≡ trail b.n ts (seen_all b.work.table) stop x
+  way_trail way size trunks table stop x =
+      ap (λ (k : ℕ). trail k way.net.trunks.now (seen_all way.table.now) stop x) size
+      ∙ ap (λ (us : List Trunk). trail b.n us (seen_all way.table.now) stop x) trunks
+      ∙ ap (λ (a : Table). trail b.n ts (seen_all a) stop x) table
 
-    pub net_entries : has_run b.phase ≡ true → vec_len b.work.table.entries ≡ net.n
-    net_entries runs = (b.seated runs).2 ∙ sym size
-
-    pub net_arrivals : Arrivals (length (trunks_of net)) (seen_all b.work.table)
-    net_arrivals x t e = let low = b.rests.0 x t e in omega (arith, ap length et, b.trunks.ok.0)
-
-    pub net_trail : (stop : Option ℕ) (x : ℕ) → trail net.n (trunks_of net) (seen_all b.work.table) stop x ≡ trail b.n ts (seen_all b.work.table) stop x
-    net_trail stop x = ap (λ (k : ℕ). trail k (trunks_of net) (seen_all b.work.table) stop x) size ∙ ap (λ (us : List Trunk). trail b.n us (seen_all b.work.table) stop x) et
+  -- and the one that leads back from v to the head of trunk t
+  pub way_back : (way : Way) → way.net.n ≡ b.n → way.net.trunks.now ≡ ts → way.table.now ≡ b.work.table → (v t : ℕ)
+      → trail way.net.n way.net.trunks.now (seen_all way.table.now) (Some (trunk way.net.trunks.now t).to) v ≡ trail b.n ts (seen_all b.work.table) (Some (trunk ts t).to) v
+  way_back way size trunks table v t =
+      way_trail way size trunks table (Some (trunk way.net.trunks.now t).to) v
+      ∙ ap (λ (us : List Trunk). trail b.n ts (seen_all b.work.table) (Some (trunk us t).to) v) trunks
 
   -- readings at x of a settled run
   module _ (x : ℕ) where

@@ -15,11 +15,7 @@ impl Phase {
     fn is_running(self) -> bool
         ensures { result ≡ runs self }
     {
-        match self {
-            Phase::Idle => false,
-            Phase::Running(_) => true,
-            Phase::Standing(_) => false,
-        }
+        matches!(self, Phase::Running(_))
     }
 }
 

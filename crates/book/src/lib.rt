@@ -3,7 +3,9 @@
 #![tactic(auto)]
 
 ghost use Rattle.std.specs.Prelude.{◌≡◌, vec_len};
-ghost use Rattle.book.specs.Held.{Calm, Empty, Firsts, Indexed, Laid, Names, Nexts, Rests, Roomy, Seated, Spare, Tells};
+ghost use Rattle.std.proofs.Props.{props};
+ghost use Rattle.routing.specs.Lists.{once_prop};
+ghost use Rattle.book.specs.Held.{Calm, Empty, Indexed, Laid, Names, Rests, Roomy, Seated, Spare, Tells};
 
 pub mod checks;
 pub mod making;
@@ -15,7 +17,7 @@ pub mod tariff;
 
 use routing::Trunk;
 use running::Work;
-use running::network::Index;
+use running::index::Index;
 
 // No run, one that is open, or one that is finished and can be read; a run has a home.
 #[derive(Clone, Copy)]
@@ -53,9 +55,7 @@ pub struct Book {
     ghost laid: { Laid n trunks },
     ghost seated: { Seated phase n work },
     ghost indexed: { Indexed phase n trunks index },
-    ghost firsts: { Firsts phase n trunks index },
-    ghost nexts: { Nexts phase trunks index },
-    ghost rests: { Rests (vec_len trunks) work },
+    ghost rests: { Rests (vec_len trunks) work } by { Prim.hlevel (once_prop, props) },
     ghost tells: { Tells n work },
     ghost names: { Names n trunks work },
 }

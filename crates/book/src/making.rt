@@ -7,7 +7,7 @@ use super::refusal::Refusal;
 use super::{Book, Phase, Space};
 use routing::{Length, Verdict};
 use running::Work;
-use running::network::Index;
+use running::index::Index;
 use running::table::Table;
 use std::alloc::{AllocError, Global};
 
@@ -34,14 +34,14 @@ impl Space {
     // Memory for the largest book; the only call that can want for it.
     pub fn take(heap: Global) -> Result<Space, AllocError> {
         let trunks = Vec::with_capacity(heap, MOST_TRUNKS)?;
-        let first = Vec::with_capacity(heap, MOST_EXCHANGES)?;
-        let next = Vec::with_capacity(heap, MOST_TRUNKS)?;
+        let starts = Vec::with_capacity(heap, MOST_EXCHANGES + 1)?;
+        let listed = Vec::with_capacity(heap, MOST_TRUNKS)?;
         let entries = Vec::with_capacity(heap, MOST_EXCHANGES)?;
         let waiting = Vec::with_capacity(heap, MOST_EXCHANGES)?;
         let list = Vec::with_capacity(heap, MOST_EXCHANGES)?;
         Ok(Space {
             trunks,
-            index: Index { first, next },
+            index: Index { starts, listed },
             work: Work {
                 table: Table { entries },
                 waiting,

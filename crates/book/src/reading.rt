@@ -1,16 +1,17 @@
-ghost use Rattle.std.specs.Prelude.{◌≡◌, not, [], ◌∷◌, length, IfOk};
+ghost use Rattle.std.specs.Prelude.{◌≡◌, true, not, [], ◌∷◌, length, IfOk};
 ghost use Rattle.routing.specs.declared.Verdict.TheVariants.{Looped};
 ghost use Rattle.routing.specs.Promise.{ReadsSo};
 ghost use Rattle.routing.specs.Readings.{arrival, asked, charge, loop as loop_reading, route, settled_at};
 ghost use Rattle.routing.specs.Rules.{is_loop};
 ghost use Rattle.book.specs.Answers.{reading_of, unit_of};
+ghost use Rattle.book.specs.Held.{has_run};
 ghost use Rattle.book.specs.State.{state_of};
 ghost use Rattle.book.specs.Written.{WritesSo};
 
 use super::refusal::Refusal;
 use super::{Book, Phase};
 use routing::{Length, Verdict};
-use running::network::Network;
+use running::way::Way;
 
 impl Book {
     // What a reading at `x` of a settled run asks.
@@ -46,15 +47,16 @@ impl Book {
         }
     }
 
-    // What the steps of a run are shown.
-    fn network(&self) -> Network<'_>
-        ensures { (result.n ≡ self.now.n) × ((result.trunks.now ≡ self.now.trunks.items) × ((result.first.now ≡ self.now.index.first.items) × (result.next.now ≡ self.now.index.next.items))) }
+    // The way back in the run that the book holds.
+    fn way(&self) -> Way<'_>
+        requires { has_run self.now.phase ≡ true }
+        ensures size { result.net.n ≡ self.now.n }
+        ensures trunks { result.net.trunks.now ≡ self.now.trunks.items }
+        ensures table { result.table.now ≡ self.now.work.table }
     {
-        Network {
-            n: self.n,
-            trunks: &self.trunks,
-            first: &self.index.first,
-            next: &self.index.next,
+        Way {
+            net: self.index.network(&self.trunks, self.n),
+            table: &self.work.table,
         }
     }
 
@@ -91,12 +93,12 @@ impl Book {
         if !self.work.table.entries[x as usize].reached {
             return Err(Refusal::Unreached);
         }
-        let net = self.network();
-        let count = self.work.table.trail_length(net, x, None);
+        let way = self.way();
+        let count = way.trail_length(x, None);
         if into.len() < count {
             return Err(Refusal::NoRoom);
         }
-        self.work.table.write_trail(net, x, into, count);
+        way.write_trail(x, into, count);
         Ok(count)
     }
 
@@ -105,15 +107,12 @@ impl Book {
         ensures { WritesSo L.Length.kind (state_of self.now lengths.now) (loop_reading (state_of self.now lengths.now) (length into.old)) into.old into.new result }
     {
         let (v, t) = self.may_read_loop(lengths)?;
-        let net = self.network();
-        let count = self
-            .work
-            .table
-            .trail_length(net, v, Some(net.trunks[t as usize].to));
+        let way = self.way();
+        let count = way.trail_length(v, Some(way.net.trunks[t as usize].to));
         if into.len() <= count {
             return Err(Refusal::NoRoom);
         }
-        self.work.table.write_trail(net, v, into, count);
+        way.write_trail(v, into, count);
         into[count] = t;
         Ok(count + 1)
     }

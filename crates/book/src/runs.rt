@@ -10,7 +10,6 @@ use super::outcome::{Ending, Progress};
 use super::refusal::{Refusal, Refused};
 use super::{Book, Phase, Ticket};
 use routing::{Length, Verdict};
-use running::network::Network;
 use running::passing::ScanOrder;
 
 impl Phase {
@@ -68,12 +67,7 @@ impl Book {
         ensures refused { is_ok result ≡ false → self.new ≡ self.old }
     {
         self.may_pass(lengths, ticket)?;
-        let net = Network {
-            n: self.n,
-            trunks: &self.trunks,
-            first: &self.index.first,
-            next: &self.index.next,
-        };
+        let net = self.index.network(&self.trunks, self.n);
         self.work.pass(net, lengths, order, &mut self.list);
         Ok(self.progress())
     }

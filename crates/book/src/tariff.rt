@@ -1,4 +1,4 @@
-ghost use Rattle.std.specs.Prelude.{◌≡◌, false, is_ok};
+ghost use Rattle.std.specs.Prelude.{◌≡◌, false, if◌then◌else◌, is_ok};
 ghost use Rattle.routing.specs.Calls.{bar, done, lay, numbered, reprice, unbar};
 ghost use Rattle.routing.specs.Does.{Serves};
 ghost use Rattle.routing.specs.Orders.{Meaning};
@@ -53,10 +53,7 @@ impl Book {
         ensures serves { Serves L.Length.kind (Meaning L.Length.kind self.old.n) (state_of self.old lengths.now) (bar t) (answer_by (λ _. done) result) (state_of self.new lengths.now) }
         ensures refused { is_ok result ≡ false → self.new ≡ self.old }
     {
-        self.may_bar(lengths, t)?;
-        self.trunks[t as usize].barred = true;
-        self.phase = Phase::Idle;
-        Ok(())
+        self.set_barred(lengths, t, true)
     }
 
     // Opens a laid trunk; one that is open stays so.
@@ -64,8 +61,16 @@ impl Book {
         ensures serves { Serves L.Length.kind (Meaning L.Length.kind self.old.n) (state_of self.old lengths.now) (unbar t) (answer_by (λ _. done) result) (state_of self.new lengths.now) }
         ensures refused { is_ok result ≡ false → self.new ≡ self.old }
     {
+        self.set_barred(lengths, t, false)
+    }
+
+    // Closes or opens a laid trunk.
+    fn set_barred<L: Length>(&mut self, lengths: &[L], t: u16, barred: bool) -> Result<(), Refusal>
+        ensures serves { Serves L.Length.kind (Meaning L.Length.kind self.old.n) (state_of self.old lengths.now) (if barred then bar t else unbar t) (answer_by (λ _. done) result) (state_of self.new lengths.now) }
+        ensures refused { is_ok result ≡ false → self.new ≡ self.old }
+    {
         self.may_bar(lengths, t)?;
-        self.trunks[t as usize].barred = false;
+        self.trunks[t as usize].barred = barred;
         self.phase = Phase::Idle;
         Ok(())
     }

@@ -1,5 +1,5 @@
 -- What a search asks of a trunk, by how the trunk's head stands.
-use Rattle.std.proofs.Common.{◌≡◌, ℕ, ◌<◌, Bool, true, false, List, length, get_or, vec_items, vec_len, ap, arith}
+use Rattle.std.proofs.Common.{◌≡◌, ℕ, ◌<◌, Bool, true, false, List, get_or, vec_items, vec_len, ap, arith}
 use Rattle.std.proofs.lemmas.List.{get_or_read}
 use Rattle.routing.specs.declared.Trunk.{Trunk}
 use Rattle.routing.specs.Kind.{Kind}

@@ -55,10 +55,10 @@ impl Way<'_> {
             if Some(at) == stop {
                 return count;
             }
-            let Some((_, before)) = self.step(at) else {
-                return count;
-            };
-            at = before;
+            match self.step(at) {
+                None => return count,
+                Some((_, before)) => at = before,
+            }
         }
         self.net.n
     }

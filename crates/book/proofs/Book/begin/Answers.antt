@@ -1,13 +1,12 @@
-use Rattle.std.proofs.Common.{true, vec_items, vec_len, refl, ap, arith}
+use Rattle.std.proofs.Common.{true, vec_len, refl, ap, arith}
 use Rattle.std.proofs.lemmas.Result.{err_from_is_err_and}
 use Rattle.std.proofs.lemmas.Bool.{both_ways}
 use Rattle.routing.specs.Rules.{Run, is_loop}
 use Rattle.routing.specs.Calls.{begin}
 use Rattle.routing.specs.History.{step, began}
-use Rattle.running.specs.Network.{ChainedFrom}
 use Rattle.book.specs.Refusal.{number_of}
 use Rattle.book.proofs.Calls.{refused_so, may_do}
-use Rattle.book.proofs.Keeps.{firsts_from, nexts_from, rests_from, tells_from, names_calm}
+use Rattle.book.proofs.Keeps.{rests_from, tells_from, names_calm}
 use Rattle.book.proofs.RunCalls.{begun_so}
 use Rattle.book.proofs.Book.begin.Goals as goal
 
@@ -31,15 +30,12 @@ invariant_of-self g c =
     let sound = c.begin.ensures.sound (vec_len b.trunks) in
     let room = c.begin.ensures.room in
     let caps = c.build.ensures.cap in
-    let chained : ChainedFrom 0 b.n (vec_items b.trunks) (vec_items ix.first) (vec_items ix.next) = rw c.deref.ensures.value at c.build.ensures.chained in
     record {
       roomy = (b.roomy.0, omega (arith, caps.0, b.roomy.1), omega (arith, caps.1, b.roomy.2), omega (arith, room.0, b.roomy.3));
       spare = (omega (arith, room.1, b.spare.0), b.spare.1);
       laid = b.laid;
       seated = λ _. (ok.0.0, ok.0.1, sound.entries);
-      indexed = λ _. (c.build.ensures.len.0, omega (arith, c.build.ensures.len.1, c.deref.ensures.len));
-      firsts = firsts_from b.n home b.trunks ix chained;
-      nexts = nexts_from b.n home b.trunks ix chained;
+      indexed = λ _. (c.build.ensures.parted, rw c.deref.ensures.value at c.build.ensures.leads);
       rests = rests_from b.n (vec_len b.trunks) w sound;
       tells = tells_from b.n w (λ _. c.begin.ensures.marked);
       names = names_calm b.n b.trunks w (ap (λ (r : Run g.row.L.Denot). is_loop r.verdict) c.begin.ensures.does);

@@ -1,13 +1,11 @@
-use Rattle.std.proofs.Common.{◌≡◌, ℕ, ◌≤◌, true, List, length, vec_items, vec_len, sym, refl, subst, arith}
+use Rattle.std.proofs.Common.{◌≡◌, ◌≤◌, true, length, vec_items, vec_len, sym, refl, ap, ◌∙◌, arith}
 use Rattle.std.proofs.lemmas.Result.{err_from_is_err_and}
 use Rattle.std.proofs.lemmas.Bool.{both_ways}
-use Rattle.routing.specs.declared.Trunk.{Trunk}
-use Rattle.routing.specs.Rules.{passed}
 use Rattle.running.specs.Work.{SoundOver, run_of}
 use Rattle.book.specs.Answers.{shows}
 use Rattle.book.specs.Held.{has_run, Names}
 use Rattle.book.specs.Refusal.{number_of}
-use Rattle.book.proofs.Keeps.{wired_of, sound_of, marked_of, rests_from, tells_from}
+use Rattle.book.proofs.Keeps.{sound_of, marked_of, rests_from, tells_from}
 use Rattle.book.proofs.RunCalls.{open_has_run, open_for_pass, no_loop_yet, room_for_pass, names_passed, pass_refused, passed_so}
 use Rattle.book.proofs.Book.pass.Goals as goal
 
@@ -28,14 +26,14 @@ pass-requires g c =
     let none = c.in_ok-may_pass.ensures in
     let runs : has_run b.phase ≡ true = open_has_run b.phase (run_of b.work c.args.lengths.now) (open_for_pass K b c.args.lengths.now k none).0 in
     let few : b.n ≤ 256 = (b.seated runs).1 in
-    let long : length c.deref.result.now ≡ vec_len b.trunks = c.deref.ensures.len in
+    let size = c.network-net.ensures.0 in
+    let trunks : c.network-net.result.trunks.now ≡ vec_items b.trunks = c.network-net.ensures.1 ∙ c.deref.ensures.value in
+    let long : length c.network-net.result.trunks.now ≡ vec_len b.trunks = ap length trunks ∙ sym b.trunks.ok.0 in
     record {
-      wired = (
-        wired_of b runs c.deref.result c.deref-2.result c.deref-3.result c.deref.ensures.value c.deref-2.ensures.value c.deref-3.ensures.value,
-        (omega (arith, room_for_pass K b c.args.lengths.now k none), omega (arith, b.spare.1)),
-      );
-      sound = subst (λ (m : ℕ). SoundOver b.n m b.work) (sym long) (sound_of b runs);
-      marked = marked_of b.n b.work b.tells (no_loop_yet K b c.args.lengths.now k none);
+      fits = rw (size, trunks) (room_for_pass K b c.args.lengths.now k none);
+      room = omega (arith, size, b.spare.1);
+      sound = rw (size, long) (sound_of b runs);
+      marked = rw size (marked_of b.n b.work b.tells (no_loop_yet K b c.args.lengths.now k none));
     }
 
 pub invariant_of-self : goal.invariant_of-self
@@ -45,29 +43,34 @@ invariant_of-self g c =
     let none = c.in_ok-may_pass.ensures in
     let runs : has_run b.phase ≡ true = open_has_run b.phase (run_of b.work c.args.lengths.now) (open_for_pass g.L.Length.kind b c.args.lengths.now c.args.ticket.now.number none).0 in
     let room = c.pass.ensures.room in
-    let sound : SoundOver b.n (vec_len b.trunks) w = subst (λ (m : ℕ). SoundOver b.n m w) c.deref.ensures.len c.pass.ensures.sound in
+    let size = c.network-net.ensures.0 in
+    let trunks : c.network-net.result.trunks.now ≡ vec_items b.trunks = c.network-net.ensures.1 ∙ c.deref.ensures.value in
+    let long : length c.network-net.result.trunks.now ≡ vec_len b.trunks = ap length trunks ∙ sym b.trunks.ok.0 in
+    let sound : SoundOver b.n (vec_len b.trunks) w = rw (size, long) at c.pass.ensures.sound in
+    let means = rw (size, trunks) at c.pass.ensures.rule.1 in
+    let does = rw (size, trunks) at c.pass.ensures.does in
     let names : Names b.n b.trunks w =
-    names_passed g.L.Length.kind b c.args.lengths.now runs c.deref.result.now c.deref.ensures.value (vec_items c.pass.new.list) w c.pass.new.lengths c.pass.ensures.rule.1 c.pass.ensures.does in
+    names_passed g.L.Length.kind b c.args.lengths.now runs (vec_items b.trunks) refl (vec_items c.pass.new.list) w c.pass.new.lengths means does in
     record {
       roomy = (b.roomy.0, b.roomy.1, b.roomy.2, omega (arith, room.1.0, b.roomy.3));
       spare = (omega (arith, room.1.1, b.spare.0), omega (arith, room.0, b.spare.1));
       laid = b.laid;
       seated = λ e. ((b.seated runs).0, (b.seated runs).1, sound.entries);
       indexed = b.indexed;
-      firsts = b.firsts;
-      nexts = b.nexts;
       rests = rests_from b.n (vec_len b.trunks) w sound;
-      tells = tells_from b.n w c.pass.ensures.marked;
+      tells = tells_from b.n w (rw size at c.pass.ensures.marked);
       names = names;
     }
 
 pub returns : goal.returns
 returns g c =
     let b = c.args.self.now in
+    let size = c.network-net.ensures.0 in
+    let trunks : c.network-net.result.trunks.now ≡ vec_items b.trunks = c.network-net.ensures.1 ∙ c.deref.ensures.value in
     record {
       serves = passed_so g.L.Length.kind b c.args.lengths.now g.O.ScanOrder.answers c.args.ticket.now.number (vec_items c.pass.new.list) c.pass.new.self c.pass.new.lengths (shows c.progress.result) c.in_ok-may_pass.ensures
-          (record { rule = rw c.deref.ensures.value at c.pass.ensures.rule.0; means = rw c.deref.ensures.value at c.pass.ensures.rule.1 })
-          (subst (λ (ts : List Trunk). run_of c.pass.new.self c.pass.new.lengths ≡ passed g.L.Length.kind b.n ts (vec_items c.pass.new.list) (run_of b.work c.args.lengths.now)) c.deref.ensures.value c.pass.ensures.does) c.progress.ensures;
+          (record { rule = rw (size, trunks) at c.pass.ensures.rule.0; means = rw (size, trunks) at c.pass.ensures.rule.1 })
+          (rw (size, trunks) at c.pass.ensures.does) c.progress.ensures;
       owed = λ t o. record { some = o.some; few = o.few; room = o.room; open_run = o.open_run; bears = o.bears };
       refused = λ e. absurd (both_ways true e refl);
     }

@@ -1,7 +1,7 @@
 use Rattle.std.proofs.Common.{◌<◌, ◌++◌, length, drop, None, vec_len, ap, ◌∙◌, arith}
 use Rattle.std.proofs.lemmas.Result.{err_from_is_err_and}
 use Rattle.running.proofs.Tables.{read_seen}
-use Rattle.book.proofs.ReadCalls.{runs, below, net_wired, net_entries, net_arrivals, net_trail, route_denied, route_unreached, route_short, route_written}
+use Rattle.book.proofs.ReadCalls.{runs, below, way_trail, route_denied, route_unreached, route_short, route_written}
 use Rattle.book.proofs.Book.route.Goals as goal
 
 pub returns-in_err-may_read : goal.returns-in_err-may_read
@@ -17,51 +17,36 @@ returns-then-not-index g c =
     let inside : c.args.x < vec_len b.work.table.entries = omega (arith, below K b c.args.lengths.now c.args.x ok, (b.seated (runs K b c.args.lengths.now c.args.x ok)).2) in
     route_unreached K b c.args.lengths.now c.args.x c.args.into.now ok (ap (λ z. z.reached) (read_seen b.work.table c.args.x c.index.result.now inside c.index.ensures) ∙ c.if-not-index.true)
 
+pub way-way-requires : goal.way-way-requires
+way-way-requires g c = runs g.L.Length.kind c.args.self.now c.args.lengths.now c.args.x c.in_ok-may_read.ensures
+
 pub trail_length-count-requires : goal.trail_length-count-requires
-trail_length-count-requires g c =
-    let K = g.L.Length.kind in
-    let b = c.args.self.now in
-    let e = c.network-net.ensures in
-    let ok = c.in_ok-may_read.ensures in
-    let going = runs K b c.args.lengths.now c.args.x ok in
-    record {
-      sizes = (omega (arith, e.0, below K b c.args.lengths.now c.args.x ok), net_entries K b c.args.lengths.now c.network-net.result e.0 e.1.0 e.1.1.0 e.1.1.1 going);
-      wired = net_wired K b c.args.lengths.now c.network-net.result e.0 e.1.0 e.1.1.0 e.1.1.1 going;
-      arrivals = net_arrivals K b c.args.lengths.now c.network-net.result e.0 e.1.0 e.1.1.0 e.1.1.1;
-    }
+trail_length-count-requires g c = rw c.way-way.ensures.size (below g.L.Length.kind c.args.self.now c.args.lengths.now c.args.x c.in_ok-may_read.ensures)
 
 pub returns-then-into-count : goal.returns-then-into-count
 returns-then-into-count g c =
     let K = g.L.Length.kind in
     let b = c.args.self.now in
-    let e = c.network-net.ensures in
+    let e = c.way-way.ensures in
     let ok = c.in_ok-may_read.ensures in
     let inside : c.args.x < vec_len b.work.table.entries = omega (arith, below K b c.args.lengths.now c.args.x ok, (b.seated (runs K b c.args.lengths.now c.args.x ok)).2) in
     route_short K b c.args.lengths.now c.args.x c.args.into.now ok (ap (λ z. z.reached) (read_seen b.work.table c.args.x c.index.result.now inside c.index.ensures) ∙ c.if-not-index.false) c.trail_length-count.result
-    (c.trail_length-count.ensures ∙ ap length (net_trail K b c.args.lengths.now c.network-net.result e.0 e.1.0 e.1.1.0 e.1.1.1 None c.args.x)) c.if-into-count.true
+    (c.trail_length-count.ensures ∙ ap length (way_trail K b c.args.lengths.now c.way-way.result e.size e.trunks e.table None c.args.x)) c.if-into-count.true
 
 pub write_trail-requires : goal.write_trail-requires
-write_trail-requires g c =
-    let K = g.L.Length.kind in
-    let b = c.args.self.now in
-    let e = c.network-net.ensures in
-    let ok = c.in_ok-may_read.ensures in
-    let going = runs K b c.args.lengths.now c.args.x ok in
-    record {
-      sizes = (omega (arith, e.0, below K b c.args.lengths.now c.args.x ok), net_entries K b c.args.lengths.now c.network-net.result e.0 e.1.0 e.1.1.0 e.1.1.1 going);
-      wired = net_wired K b c.args.lengths.now c.network-net.result e.0 e.1.0 e.1.1.0 e.1.1.1 going;
-      arrivals = net_arrivals K b c.args.lengths.now c.network-net.result e.0 e.1.0 e.1.1.0 e.1.1.1;
-      count = c.if-into-count.false;
-    }
+write_trail-requires g c = record {
+  inside = rw c.way-way.ensures.size (below g.L.Length.kind c.args.self.now c.args.lengths.now c.args.x c.in_ok-may_read.ensures);
+  count = c.if-into-count.false;
+}
 
 pub returns : goal.returns
 returns g c =
     let K = g.L.Length.kind in
     let b = c.args.self.now in
-    let e = c.network-net.ensures in
+    let e = c.way-way.ensures in
     let ok = c.in_ok-may_read.ensures in
     let inside : c.args.x < vec_len b.work.table.entries = omega (arith, below K b c.args.lengths.now c.args.x ok, (b.seated (runs K b c.args.lengths.now c.args.x ok)).2) in
-    let trails = net_trail K b c.args.lengths.now c.network-net.result e.0 e.1.0 e.1.1.0 e.1.1.1 None c.args.x in
+    let trails = way_trail K b c.args.lengths.now c.way-way.result e.size e.trunks e.table None c.args.x in
     route_written K b c.args.lengths.now c.args.x c.args.into.now ok (ap (λ z. z.reached) (read_seen b.work.table c.args.x c.index.result.now inside c.index.ensures) ∙ c.if-not-index.false) c.trail_length-count.result
     (c.trail_length-count.ensures ∙ ap length trails) c.write_trail.new.into c.if-into-count.false
     (c.write_trail.ensures None c.trail_length-count.ensures ∙ ap (λ us. us ++ drop c.trail_length-count.result c.args.into.now) trails)

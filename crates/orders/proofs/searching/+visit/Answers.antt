@@ -1,11 +1,9 @@
 use Rattle.std.proofs.Common.{◌≡◌, ℕ, ◌+◌, ◌<◌, List, Bool, true, length, get_or, drop, set, vec_items, sym, ◌∙◌, inl, inr, arith}
 use Rattle.std.proofs.lemmas.List.{length-set, drop_more, drop_all}
 use Rattle.routing.specs.declared.Trunk.{Trunk}
-use Rattle.routing.specs.Rules.{trunk}
 use Rattle.running.specs.View.{run_in}
 use Rattle.running.proofs.Indexes.{leaving_at}
 use Rattle.orders.proofs.Visits.{going_start, going_skip, going_visit, unmarked_set, visit_done}
-use Rattle.orders.proofs.searching.+visit.Given as given
 use Rattle.orders.proofs.searching.+visit.Goals as goal
 use Rattle.orders.proofs.searching.+visit.Goals.{then-not-marks-w+then-follows, else-not-marks-w, else-not-marks-w-via-then-not-marks-w+else-follows, else-not-marks-w-via-else-not-marks-w}
 

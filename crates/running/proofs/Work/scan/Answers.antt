@@ -1,7 +1,7 @@
 use Rattle.std.proofs.Common.{◌+◌, drop, sym, arith}
 use Rattle.std.proofs.lemmas.List.{drop_more}
 use Rattle.running.proofs.Indexes.{leaving_at}
-use Rattle.running.proofs.Scans.{going_on, going_over, going_none}
+use Rattle.running.proofs.Scans.{going_on, going_over}
 use Rattle.running.proofs.Work.scan.Goals as goal
 
 pub returns-then-found_loop : goal.returns-then-found_loop

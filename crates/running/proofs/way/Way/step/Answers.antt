@@ -1,4 +1,4 @@
-use Rattle.std.proofs.Common.{◌≡◌, ℕ, ◌<◌, get_or, Some, vec_len, refl, ap, ◌∙◌, arith}
+use Rattle.std.proofs.Common.{◌≡◌, get_or, Some, refl, ap, ◌∙◌, arith}
 use Rattle.routing.specs.Rules.{unreached}
 use Rattle.running.specs.Table.{seen_all}
 use Rattle.running.proofs.Tables.{read_seen}

@@ -1,4 +1,4 @@
-use Rattle.std.proofs.Common.{◌≡◌, ℕ, List, false, ◌+◌, ◌-◌, ◌<◌, length, get_or, Some, None, sym, ap, ◌∙◌, arith}
+use Rattle.std.proofs.Common.{◌≡◌, ℕ, List, false, ◌+◌, ◌-◌, length, sym, ap, ◌∙◌, arith}
 use Rattle.std.proofs.lemmas.List.{length_push}
 use Rattle.running.specs.Table.{seen_all}
 use Rattle.routing.specs.declared.Trunk.{Trunk}
@@ -12,9 +12,9 @@ returns-then-eq c =
     let none = ap length (trail_stop c.args.self.net.trunks.now (seen_all c.args.self.table.now) c.args.stop (c.args.self.net.n - c.loop-count.count) c.loop-count.at (sym (stops_is c.args.stop c.loop-count.at) ∙ sym c.if-eq.ensures)) in
     omega (arith, c.loop-count.invariant.1)
 
-pub returns-in_default : goal.returns-in_default
-returns-in_default c =
-    let none = ap length (trail_none c.args.self.net.trunks.now (seen_all c.args.self.table.now) c.args.stop (c.args.self.net.n - c.loop-count.count) c.loop-count.at c.in_default.ensures) in
+pub returns-in-None : goal.returns-in-None
+returns-in-None c =
+    let none = ap length (trail_none c.args.self.net.trunks.now (seen_all c.args.self.table.now) c.args.stop (c.args.self.net.n - c.loop-count.count) c.loop-count.at c.in-None.ensures) in
     omega (arith, c.loop-count.invariant.1)
 
 pub loop-count-preserved : goal.loop-count-preserved

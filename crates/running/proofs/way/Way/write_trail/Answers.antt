@@ -1,8 +1,8 @@
-use Rattle.std.proofs.Common.{◌≡◌, ℕ, ◌+◌, ◌-◌, List, subst, set, sym, ap, ◌∙◌, arith}
+use Rattle.std.proofs.Common.{◌≡◌, ℕ, ◌+◌, ◌-◌, List, subst, set, sym, arith}
 use Rattle.routing.specs.declared.Trunk.{Trunk}
-use Rattle.routing.specs.Rules.{Entry, trunk}
+use Rattle.routing.specs.Rules.{Entry}
 use Rattle.running.specs.Table.{seen_all}
-use Rattle.running.proofs.Trailing.{Left, left_start, left_on, left_end, never_none}
+use Rattle.running.proofs.Trailing.{Left, left_start, left_on, never_none}
 use Rattle.running.proofs.way.Way.write_trail.Goals as goal
 
 pub loop-i-init : goal.loop-i-init
