@@ -74,10 +74,7 @@ impl Book {
     ) -> Result<(), Refusal>
         ensures { refusal_in result ≡ refusal L.Length.kind (state_of self.now lengths.now) (reprice t length) }
     {
-        self.between_runs(lengths)?;
-        if t as usize >= self.trunks.len() {
-            return Err(Refusal::NoSuchTrunk);
-        }
+        self.may_bar(lengths, t)?;
         if length.extent() > 1 {
             return Err(Refusal::LengthTooGreat);
         }

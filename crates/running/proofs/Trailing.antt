@@ -1,7 +1,7 @@
 -- The way back, counted and then written from its far end.
 use Rattle.std.specs.Option.{option_eq}
 use Rattle.std.proofs.Common.{◌≡◌, eqb, ℕ, zero, suc, ◌+◌, ◌-◌, ◌<◌, ◌≤◌, Bool, true, false, cond, ◌⊎◌, List, [], ◌∷◌, ◌++◌, length, get_or, take, drop, set, Some, None, Option, sym, refl, ap, ◌∙◌, subst, inl, inr, arith}
-use Rattle.std.proofs.lemmas.List.{length-append, length-take-le, length-drop, take_all, take_more, drop_more, append_assoc, take-append-drop, get_or_append_left, same_from_push, set_at, drop_at, set-append_left}
+use Rattle.std.proofs.lemmas.List.{append-nil, drop_all, length-append, length-take-le, length-drop, take_all, take_more, drop_more, append_assoc, take-append-drop, get_or_append_left, same_from_push, set_at, drop_at, set-append_left}
 use Rattle.std.proofs.lemmas.Bool.{cases_Bool, cond-true, cond-false}
 use Rattle.routing.specs.declared.Trunk.{Trunk}
 use Rattle.routing.specs.Rules.{Entry, unreached, trunk}
@@ -52,35 +52,35 @@ module _ (ts : List Trunk) (es : List Entry) (stop : Option ℕ) where
           let low : suc k - 1 ≡ k = omega arith in
           (t, record { arrives = is; split = cond-false (stops stop x) [] _ e ∙ ap (λ (o : Option ℕ). onward k o) is ∙ ap (λ (j : ℕ). trail j ts es stop (trunk ts t).from ++ (t ∷ [])) (sym low) })
 
-module _ (n : ℕ) (ts : List Trunk) (es : List Entry) (stop : Option ℕ) (x count : ℕ) (before : List ℕ) where
+module _ (n : ℕ) (ts : List Trunk) (es : List Entry) (stop : Option ℕ) (x : ℕ) (before : List ℕ) where
   abbrev full : List ℕ
   full = trail n ts es stop x
 
   -- all but the first i trunks are written, and the trail of `at` are those i
   pub record Left (i at : ℕ) (now_is : List ℕ) : Type 0 where
     pub inside : at < n
-    pub within : i ≤ count
-    pub rest : take i full ≡ trail (n - (count - i)) ts es stop at
-    pub wrote : now_is ≡ take i before ++ drop i (full ++ drop count before)
+    pub within : i ≤ length full
+    pub rest : take i full ≡ trail (n - (length full - i)) ts es stop at
+    pub wrote : now_is ≡ take i before ++ drop i full
 
-  module _ (long : count ≡ length full) (room : count ≤ length before) where
-    pub left_start : x < n → Left count x before
+  module _ (long : length before ≡ length full) where
+    pub left_start : x < n → Left (length before) x before
     left_start low = record {
       inside = low;
       within = omega arith;
       rest =
-          let none : n - (count - count) ≡ n = omega arith in
-          take_all count full (omega arith) ∙ ap (λ (k : ℕ). trail k ts es stop x) (sym none);
-      wrote = sym (ap (λ (ys : List ℕ). take count before ++ ys) (drop_at full (drop count before) count (sym long)) ∙ take-append-drop count before);
+          let none : n - (length full - length before) ≡ n = omega arith in
+          take_all (length before) full (omega arith) ∙ ap (λ (k : ℕ). trail k ts es stop x) (sym none);
+      wrote = sym (ap (λ (ys : List ℕ). take (length before) before ++ ys) (drop_all (length before) full (omega arith)) ∙ append-nil (take (length before) before) ∙ take_all (length before) before (omega arith));
     }
 
     -- i is one above the place written next
     module _ (i at : ℕ) (now_is : List ℕ) (left : Left (i + 1) at now_is) where
-      ends : (t : ℕ) × EndedBy ts es stop (n - (count - (i + 1))) at t
+      ends : (t : ℕ) × EndedBy ts es stop (n - (length full - (i + 1))) at t
       ends =
-          let all : length (take (i + 1) full) ≡ i + 1 = length-take-le (i + 1) full (omega (arith, left.within)) in
-          let same : length (take (i + 1) full) ≡ length (trail (n - (count - (i + 1))) ts es stop at) = ap length left.rest in
-          trail_ends ts es stop (n - (count - (i + 1))) at (omega arith)
+          let all : length (take (i + 1) full) ≡ i + 1 = length-take-le (i + 1) full left.within in
+          let same : length (take (i + 1) full) ≡ length (trail (n - (length full - (i + 1))) ts es stop at) = ap length left.rest in
+          trail_ends ts es stop (n - (length full - (i + 1))) at (omega arith)
 
       pub never_none : (get_or es at unreached).arriving ≡ None → ⊥
       never_none e =
@@ -92,14 +92,10 @@ module _ (n : ℕ) (ts : List Trunk) (es : List Entry) (stop : Option ℕ) (x co
       left_on t e low =
           let k : ◌≡◌ {A = Option ℕ} (Some ends.0) (Some t) = sym ends.1.arrives ∙ e in
           let same : ends.0 ≡ t = cc in
-          let h : EndedBy ts es stop (n - (count - (i + 1))) at t = subst (λ (u : ℕ). EndedBy ts es stop (n - (count - (i + 1))) at u) same ends.1 in
-          let within : i + 1 ≤ count = left.within in
-          let here : i < length full = omega arith in
-          let parts = same_from_push (take i full) (trail (n - (count - (i + 1)) - 1) ts es stop (trunk ts t).from) (get_or full i 0) t (sym (take_more full i 0 here) ∙ left.rest ∙ h.split) in
-          let less : n - (count - (i + 1)) - 1 ≡ n - (count - i) = omega arith in
-          let whole : List ℕ = full ++ drop count before in
-          let sized : length whole ≡ length before = length-append full (drop count before) ∙ omega (arith, length-drop count before) in
-          let written : get_or whole i 0 ≡ t = get_or_append_left full (drop count before) 0 i here ∙ parts.1 in
+          let h : EndedBy ts es stop (n - (length full - (i + 1))) at t = subst (λ (u : ℕ). EndedBy ts es stop (n - (length full - (i + 1))) at u) same ends.1 in
+          let here : i < length full = omega (arith, left.within) in
+          let parts = same_from_push (take i full) (trail (n - (length full - (i + 1)) - 1) ts es stop (trunk ts t).from) (get_or full i 0) t (sym (take_more full i 0 here) ∙ left.rest ∙ h.split) in
+          let less : n - (length full - (i + 1)) - 1 ≡ n - (length full - i) = omega arith in
           let long_take : length (take (i + 1) before) ≡ i + 1 = length-take-le (i + 1) before (omega arith) in
           record {
             inside = low;
@@ -107,10 +103,10 @@ module _ (n : ℕ) (ts : List Trunk) (es : List Entry) (stop : Option ℕ) (x co
             rest = parts.0 ∙ ap (λ (k : ℕ). trail k ts es stop (trunk ts t).from) less;
             wrote =
                 ap (λ (ys : List ℕ). set ys i t) left.wrote
-                ∙ set-append_left (take (i + 1) before) (drop (i + 1) whole) i t (omega arith)
-                ∙ ap (λ (ys : List ℕ). ys ++ drop (i + 1) whole) (front_set i t (omega arith))
-                ∙ append_assoc (take i before) (t ∷ []) (drop (i + 1) whole)
-                ∙ ap (λ (ys : List ℕ). take i before ++ ys) (ap (λ (u : ℕ). u ∷ drop (i + 1) whole) (sym written) ∙ sym (drop_more whole i 0 (omega arith)));
+                ∙ set-append_left (take (i + 1) before) (drop (i + 1) full) i t (omega arith)
+                ∙ ap (λ (ys : List ℕ). ys ++ drop (i + 1) full) (front_set i t (omega arith))
+                ∙ append_assoc (take i before) (t ∷ []) (drop (i + 1) full)
+                ∙ ap (λ (ys : List ℕ). take i before ++ ys) (ap (λ (u : ℕ). u ∷ drop (i + 1) full) (sym parts.1) ∙ sym (drop_more full i 0 here));
           }
         where
           front_set : (i t : ℕ) → i < length before → set (take (i + 1) before) i t ≡ take i before ++ (t ∷ [])
@@ -118,5 +114,5 @@ module _ (n : ℕ) (ts : List Trunk) (es : List Entry) (stop : Option ℕ) (x co
               ap (λ (ys : List ℕ). set ys i t) (take_more before i 0 l)
               ∙ set_at (take i before) (get_or before i 0) [] t i (length-take-le i before (omega arith))
 
-    pub left_end : (at : ℕ) (now_is : List ℕ) → Left 0 at now_is → now_is ≡ full ++ drop count before
+    pub left_end : (at : ℕ) (now_is : List ℕ) → Left 0 at now_is → now_is ≡ full
     left_end at now_is left = left.wrote

@@ -1,4 +1,4 @@
-ghost use Rattle.std.specs.Prelude.{◌≡◌, ℕ, ◌<◌, ◌≤◌, ◌++◌, length, drop, vec_len, Option, MatchOption};
+ghost use Rattle.std.specs.Prelude.{◌≡◌, ℕ, ◌<◌, length, vec_len, Option, MatchOption};
 ghost use Rattle.routing.specs.Lists.{has};
 ghost use Rattle.routing.specs.Rules.{back};
 ghost use Rattle.running.specs.Table.{seen_all};
@@ -63,14 +63,14 @@ impl Way<'_> {
         self.net.n
     }
 
-    // Writes the `count` trunks that lead back from `x` to the front of `into`, in the order of travel.
-    pub fn write_trail(self, x: u16, into: &mut [u16], count: usize)
-        requires inside { x < self.net.n }
-        requires count { count ≤ length into.old }
-        ensures { (stop : Option ℕ) → count ≡ length (trail self.entry.net.n self.entry.net.trunks.now (seen_all self.entry.table.now) stop x) → into.new ≡ trail self.entry.net.n self.entry.net.trunks.now (seen_all self.entry.table.now) stop x ++ drop count into.old }
+    // Fills the list with the trunks that lead back from `x`, in the order of travel, if it is just as long.
+    pub fn write_trail(self, x: u16, into: &mut [u16])
+        requires { x < self.net.n }
+        ensures { (stop : Option ℕ) → length into.old ≡ length (trail self.entry.net.n self.entry.net.trunks.now (seen_all self.entry.table.now) stop x) → into.new ≡ trail self.entry.net.n self.entry.net.trunks.now (seen_all self.entry.table.now) stop x }
     {
         let mut at = x;
-        for i in (0..count).rev() {
+        // By number: of the items of a reversed `iter_mut` a proof knows nothing.
+        for i in (0..into.len()).rev() {
             if let Some((t, before)) = self.step(at) {
                 into[i] = t;
                 at = before;

@@ -1,4 +1,5 @@
 use Rattle.std.proofs.Common.{◌++◌, length, drop, Some, ap, ◌∙◌, arith}
+use Rattle.std.proofs.lemmas.List.{length-take-le}
 use Rattle.std.proofs.lemmas.Result.{err_from_is_err_and}
 use Rattle.routing.specs.Rules.{trunk}
 use Rattle.book.proofs.ReadCalls.{loop_runs, loop_at, loop_by, way_back, loop_denied, loop_short, loop_written}
@@ -26,14 +27,6 @@ returns-then-into-count g c =
     loop_short g.L.Length.kind c.args.self.now c.args.lengths.now c.args.into.now may.refuses c.in_ok-v.v c.in_ok-v.t may.names c.trail_length-count.result
     (c.trail_length-count.ensures ∙ ap length (way_back g.L.Length.kind c.args.self.now c.args.lengths.now c.way-way.result c.way-way.ensures.size c.way-way.ensures.trunks c.way-way.ensures.table c.in_ok-v.v c.in_ok-v.t)) c.if-into-count.true
 
-pub write_trail-requires : goal.write_trail-requires
-write_trail-requires g c =
-    let may = c.in_ok-v.ensures in
-    record {
-      inside = rw c.way-way.ensures.size (loop_at g.L.Length.kind c.args.self.now c.args.lengths.now c.args.into.now may.refuses c.in_ok-v.v c.in_ok-v.t may.names);
-      count = omega arith;
-    }
-
 pub returns : goal.returns
 returns g c =
     let K = g.L.Length.kind in
@@ -42,5 +35,5 @@ returns g c =
     let may = c.in_ok-v.ensures in
     let trails = way_back K b c.args.lengths.now c.way-way.result e.size e.trunks e.table c.in_ok-v.v c.in_ok-v.t in
     loop_written K b c.args.lengths.now c.args.into.now may.refuses c.in_ok-v.v c.in_ok-v.t may.names c.trail_length-count.result
-    (c.trail_length-count.ensures ∙ ap length trails) c.write_trail.new.into c.if-into-count.false
-    (c.write_trail.ensures (Some (trunk c.way-way.result.net.trunks.now c.in_ok-v.t).to) c.trail_length-count.ensures ∙ ap (λ us. us ++ drop c.trail_length-count.result c.args.into.now) trails)
+    (c.trail_length-count.ensures ∙ ap length trails) _ c.if-into-count.false
+    (ap (λ us. us ++ drop c.trail_length-count.result c.args.into.now) (c.write_trail.ensures (Some (trunk c.way-way.result.net.trunks.now c.in_ok-v.t).to) (length-take-le c.trail_length-count.result c.args.into.now (omega arith) ∙ c.trail_length-count.ensures) ∙ trails))

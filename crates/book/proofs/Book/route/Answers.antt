@@ -1,4 +1,5 @@
 use Rattle.std.proofs.Common.{◌<◌, ◌++◌, length, drop, None, vec_len, ap, ◌∙◌, arith}
+use Rattle.std.proofs.lemmas.List.{length-take-le}
 use Rattle.std.proofs.lemmas.Result.{err_from_is_err_and}
 use Rattle.running.proofs.Tables.{read_seen}
 use Rattle.book.proofs.ReadCalls.{runs, below, way_trail, route_denied, route_unreached, route_short, route_written}
@@ -33,12 +34,6 @@ returns-then-into-count g c =
     route_short K b c.args.lengths.now c.args.x c.args.into.now ok (ap (λ z. z.reached) (read_seen b.work.table c.args.x c.index.result.now inside c.index.ensures) ∙ c.if-not-index.false) c.trail_length-count.result
     (c.trail_length-count.ensures ∙ ap length (way_trail K b c.args.lengths.now c.way-way.result e.size e.trunks e.table None c.args.x)) c.if-into-count.true
 
-pub write_trail-requires : goal.write_trail-requires
-write_trail-requires g c = record {
-  inside = rw c.way-way.ensures.size (below g.L.Length.kind c.args.self.now c.args.lengths.now c.args.x c.in_ok-may_read.ensures);
-  count = c.if-into-count.false;
-}
-
 pub returns : goal.returns
 returns g c =
     let K = g.L.Length.kind in
@@ -48,5 +43,5 @@ returns g c =
     let inside : c.args.x < vec_len b.work.table.entries = omega (arith, below K b c.args.lengths.now c.args.x ok, (b.seated (runs K b c.args.lengths.now c.args.x ok)).2) in
     let trails = way_trail K b c.args.lengths.now c.way-way.result e.size e.trunks e.table None c.args.x in
     route_written K b c.args.lengths.now c.args.x c.args.into.now ok (ap (λ z. z.reached) (read_seen b.work.table c.args.x c.index.result.now inside c.index.ensures) ∙ c.if-not-index.false) c.trail_length-count.result
-    (c.trail_length-count.ensures ∙ ap length trails) c.write_trail.new.into c.if-into-count.false
-    (c.write_trail.ensures None c.trail_length-count.ensures ∙ ap (λ us. us ++ drop c.trail_length-count.result c.args.into.now) trails)
+    (c.trail_length-count.ensures ∙ ap length trails) _ c.if-into-count.false
+    (ap (λ us. us ++ drop c.trail_length-count.result c.args.into.now) (c.write_trail.ensures None (length-take-le c.trail_length-count.result c.args.into.now c.if-into-count.false ∙ c.trail_length-count.ensures) ∙ trails))

@@ -7,8 +7,8 @@ use Rattle.running.proofs.way.Way.write_trail.Goals as goal
 
 pub loop-i-init : goal.loop-i-init
 loop-i-init c = (
-  c.requires.inside,
-  λ stop long. left_start c.args.self.net.n c.args.self.net.trunks.now (seen_all c.args.self.table.now) stop c.args.x c.args.count c.args.into.now long c.requires.count c.requires.inside,
+  c.requires,
+  λ stop long. left_start c.args.self.net.n c.args.self.net.trunks.now (seen_all c.args.self.table.now) stop c.args.x c.args.into.now long c.requires,
 )
 
 pub loop-i-preserved-in-Some : goal.loop-i-preserved-in-Some
@@ -20,9 +20,9 @@ loop-i-preserved-in-Some c =
     let next : c.loop-i.i ≡ i + 1 = omega arith in (
       c.in-Some.ensures.2,
       λ stop long.
-          subst (λ (v : ℕ). Left n ts es stop c.args.x c.args.count c.args.into.now i v (set c.loop-i.into i c.in-Some.t)) (sym c.in-Some.ensures.1)
-          (left_on n ts es stop c.args.x c.args.count c.args.into.now long c.requires.count i c.loop-i.at c.loop-i.into
-          (subst (λ (k : ℕ). Left n ts es stop c.args.x c.args.count c.args.into.now k c.loop-i.at c.loop-i.into) next (c.loop-i.invariant.1 stop long))
+          subst (λ (v : ℕ). Left n ts es stop c.args.x c.args.into.now i v (set c.loop-i.into i c.in-Some.t)) (sym c.in-Some.ensures.1)
+          (left_on n ts es stop c.args.x c.args.into.now long i c.loop-i.at c.loop-i.into
+          (subst (λ (k : ℕ). Left n ts es stop c.args.x c.args.into.now k c.loop-i.at c.loop-i.into) next (c.loop-i.invariant.1 stop long))
           c.in-Some.t c.in-Some.ensures.0 (rw c.in-Some.ensures.1 at c.in-Some.ensures.2)),
     )
 
@@ -35,6 +35,6 @@ loop-i-preserved c =
     let next : c.loop-i.i ≡ i + 1 = omega arith in (
       c.loop-i.invariant.0,
       λ stop long.
-          absurd (never_none n ts es stop c.args.x c.args.count c.args.into.now long c.requires.count i c.loop-i.at c.loop-i.into
-          (subst (λ (k : ℕ). Left n ts es stop c.args.x c.args.count c.args.into.now k c.loop-i.at c.loop-i.into) next (c.loop-i.invariant.1 stop long)) c.in_default.ensures),
+          absurd (never_none n ts es stop c.args.x c.args.into.now long i c.loop-i.at c.loop-i.into
+          (subst (λ (k : ℕ). Left n ts es stop c.args.x c.args.into.now k c.loop-i.at c.loop-i.into) next (c.loop-i.invariant.1 stop long)) c.in_default.ensures),
     )

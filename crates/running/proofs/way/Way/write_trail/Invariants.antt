@@ -7,5 +7,5 @@ use Rattle.running.proofs.way.Way.write_trail.Given as goal
 abbrev pub invariant-loop-i : goal.invariant-loop-i
 invariant-loop-i l =
     (l.at < l.self.net.n)
-    × ((stop : Option ℕ) → l.count ≡ length (trail l.self.net.n l.self.net.trunks.now (seen_all l.self.table.now) stop l.x)
-    → Left l.self.net.n l.self.net.trunks.now (seen_all l.self.table.now) stop l.x l.count l.initial.into l.i l.at l.into)
+    × ((stop : Option ℕ) → length l.initial.into ≡ length (trail l.self.net.n l.self.net.trunks.now (seen_all l.self.table.now) stop l.x)
+    → Left l.self.net.n l.self.net.trunks.now (seen_all l.self.table.now) stop l.x l.initial.into l.i l.at l.into)
