@@ -20,7 +20,7 @@ has_run (Standing home) = true
 
 -- room for the most exchanges and trunks that a book may have
 abbrev pub Roomy : Vec Trunk Global → Index → Work → Type 0
-Roomy ts ix w = (4096 ≤ vec_capacity ts) × (257 ≤ vec_capacity ix.starts) × (4096 ≤ vec_capacity ix.listed) × (256 ≤ vec_capacity w.table.entries)
+Roomy ts ix w = (4096 ≤ vec_capacity ts) × (256 ≤ vec_capacity ix.starts) × (4096 ≤ vec_capacity ix.listed) × (256 ≤ vec_capacity w.table.entries)
 
 -- and room for those who wait, and for the list that an order answers
 abbrev pub Spare : Work → Vec ℕ Global → Type 0

@@ -34,7 +34,7 @@ impl Space {
     // Memory for the largest book; the only call that can want for it.
     pub fn take(heap: Global) -> Result<Space, AllocError> {
         let trunks = Vec::with_capacity(heap, MOST_TRUNKS)?;
-        let starts = Vec::with_capacity(heap, MOST_EXCHANGES + 1)?;
+        let starts = Vec::with_capacity(heap, MOST_EXCHANGES)?;
         let listed = Vec::with_capacity(heap, MOST_TRUNKS)?;
         let entries = Vec::with_capacity(heap, MOST_EXCHANGES)?;
         let waiting = Vec::with_capacity(heap, MOST_EXCHANGES)?;

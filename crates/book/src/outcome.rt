@@ -6,7 +6,7 @@ pub enum Progress {
     Loop { passes: u64, scans: u64 },
 }
 
-// How a run ended.
+// How a run ended. An enum of its own: a run that is finished is not working.
 #[derive(Clone, Copy, PartialEq, Eq, Debug)]
 pub enum Ending {
     Settled { passes: u64, scans: u64 },

@@ -31,6 +31,7 @@ pub enum Refusal {
 }
 
 impl Refusal {
+    // By a method: `u16::from` would not say what the number is.
     pub fn number(self) -> u16
         ensures { result ≡ number_of self }
     {

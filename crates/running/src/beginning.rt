@@ -6,7 +6,7 @@ use super::Work;
 use super::table::Entry;
 use routing::{Length, Verdict};
 
-// Makes `items` hold `x`, `n` times.
+// Makes `items` hold `x`, `n` times. Not by `resize`, which can want memory: there is room.
 pub(crate) fn refill<T: Copy>(items: &mut Vec<T>, x: T, n: usize)
     requires { n ≤ vec_capacity items.old }
     ensures items { items.new.items ≡ replicate n x }

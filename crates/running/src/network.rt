@@ -25,7 +25,9 @@ impl<'a> Network<'a> {
         ensures { result.now ≡ leaving self.entry.trunks.now v }
     {
         let from = self.starts[v as usize] as usize;
-        let to = self.starts[v as usize + 1] as usize;
-        &self.listed[from..to]
+        match self.starts.get(v as usize + 1) {
+            Some(to) => &self.listed[from..*to as usize],
+            None => &self.listed[from..],
+        }
     }
 }

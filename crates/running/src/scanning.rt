@@ -10,6 +10,8 @@ use super::view::View;
 use super::way::Way;
 use routing::{Length, Verdict};
 
+// The network and the length list are parameters: a struct that held the list and the work as `&mut` would need two
+// clauses on the names of its references in each method, in place of two `requires`.
 impl Work {
     // The trunk `t` from `v`: its head gets a better label, or the run is over as a loop, or nothing happens.
     fn try_trunk<L: Length>(&mut self, net: Network<'_>, lengths: &mut [L], v: u16, t: u16)

@@ -2,7 +2,8 @@ ghost use Rattle.std.specs.Prelude.{◌≡◌, ℕ, ◌<◌, true, cond, not, ve
 ghost use Rattle.routing.specs.Lists.{has};
 ghost use Rattle.running.specs.Table.{arrived, dues, is_due, seen_all};
 
-// What a run knows of an exchange. `due`: it is in the waiting list, or its turn in this pass is to come.
+// What a run knows of an exchange. Its label stands in the caller's length list; `reached` tells whether it has one.
+// `due`: it is in the waiting list, or its turn in this pass is to come.
 #[derive(Clone, Copy, Default)]
 pub struct Entry {
     pub reached: bool,
