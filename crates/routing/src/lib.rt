@@ -8,12 +8,9 @@ pub trait Length: Copy {
     ghost kind: { Kind Self };
 
     // How many bytes a length has on a tape.
-    ghost octets: { ℕ };
+    ghost WIDTH: { ℕ };
 
     const WIDTH: usize;
-
-    fn tape_width() -> usize
-        ensures { result ≡ octets };
 
     fn zero() -> Self
         ensures { result ≡ kind.none };
