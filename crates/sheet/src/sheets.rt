@@ -47,7 +47,7 @@ fn tell<L: TapeLength + Printed>(
     n: u16,
     out: &mut String,
 ) -> Result<(), NoMemory>
-    ensures { OnOk result (TellsAll (form_of L.Length.kind L.Length.octets L.TapeLength.meant L.Printed.printed) n (told (form_of L.Length.kind L.Length.octets L.TapeLength.meant L.Printed.printed) n tape.now) (string_bytes out.old) (string_bytes out.new)) }
+    ensures { OnOk result (TellsAll (form_of L.Length.kind L.Length.WIDTH L.TapeLength.meant L.Printed.printed) n (told (form_of L.Length.kind L.Length.WIDTH L.TapeLength.meant L.Printed.printed) n tape.now) (string_bytes out.old) (string_bytes out.new)) }
 {
     let mut lengths = places::<L>(heap, n)?;
     if let Err(fault) = fitting(n, &lengths) {

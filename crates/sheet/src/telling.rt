@@ -23,7 +23,7 @@ fn take_record<L: TapeLength + Printed>(
     tape: &[u8],
     at: usize,
 ) -> Result<(Effect, usize), RecordFault>
-    ensures { Takes (form_of L.Length.kind L.Length.octets L.TapeLength.meant L.Printed.printed) tape.now at (state_of book.old lengths.old) result (state_of book.new lengths.new) }
+    ensures { Takes (form_of L.Length.kind L.Length.WIDTH L.TapeLength.meant L.Printed.printed) tape.now at (state_of book.old lengths.old) result (state_of book.new lengths.new) }
 {
     let placed = read_record::<L>(tape, at)?;
     let effect = apply(book, lengths, placed.record)?;
@@ -65,8 +65,8 @@ pub(crate) fn tell_records<L: TapeLength + Printed>(
     n: u16,
     out: &mut String,
 ) -> Result<(), NoMemory>
-    requires { state_of book.old lengths.old ≡ new_book (form_of L.Length.kind L.Length.octets L.TapeLength.meant L.Printed.printed) n }
-    ensures { OnOk result (TellsAll (form_of L.Length.kind L.Length.octets L.TapeLength.meant L.Printed.printed) n (told_from (form_of L.Length.kind L.Length.octets L.TapeLength.meant L.Printed.printed) (length tape.now) tape.now 4 (state_of book.old lengths.old) []) (string_bytes out.old) (string_bytes out.new)) }
+    requires { state_of book.old lengths.old ≡ new_book (form_of L.Length.kind L.Length.WIDTH L.TapeLength.meant L.Printed.printed) n }
+    ensures { OnOk result (TellsAll (form_of L.Length.kind L.Length.WIDTH L.TapeLength.meant L.Printed.printed) n (told_from (form_of L.Length.kind L.Length.WIDTH L.TapeLength.meant L.Printed.printed) (length tape.now) tape.now 4 (state_of book.old lengths.old) []) (string_bytes out.old) (string_bytes out.new)) }
 {
     let mut at = HEAD_BYTES;
     while at < tape.len() {

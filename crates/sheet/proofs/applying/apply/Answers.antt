@@ -15,7 +15,7 @@ use Rattle.sheet.proofs.applying.apply.Goals as goal
 pub returns-in-Lay : goal.returns-in-Lay
 returns-in-Lay g c = λ number n first h to.
     let K = g.L.Length.kind in
-    let F = form_of K g.L.Length.octets g.L.TapeLength.meant g.L.Printed.printed in
+    let F = form_of K g.L.Length.WIDTH g.L.TapeLength.meant g.L.Printed.printed in
     let R = Meaning K c.args.book.now.n in
     let s = state_of c.args.book.now c.args.lengths.now in
     let s' = state_of c.lay.new.self c.lay.new.lengths in
@@ -28,7 +28,7 @@ returns-in-Lay g c = λ number n first h to.
 pub returns-in-Reprice : goal.returns-in-Reprice
 returns-in-Reprice g c = λ number n first h to.
     let K = g.L.Length.kind in
-    let F = form_of K g.L.Length.octets g.L.TapeLength.meant g.L.Printed.printed in
+    let F = form_of K g.L.Length.WIDTH g.L.TapeLength.meant g.L.Printed.printed in
     let R = Meaning K c.args.book.now.n in
     let s = state_of c.args.book.now c.args.lengths.now in
     let s' = state_of c.reprice.new.self c.reprice.new.lengths in
@@ -40,7 +40,7 @@ returns-in-Reprice g c = λ number n first h to.
 pub returns-in-Bar-switch : goal.returns-in-Bar-switch
 returns-in-Bar-switch g c = λ number n first h to.
     let K = g.L.Length.kind in
-    let F = form_of K g.L.Length.octets g.L.TapeLength.meant g.L.Printed.printed in
+    let F = form_of K g.L.Length.WIDTH g.L.TapeLength.meant g.L.Printed.printed in
     let R = Meaning K c.args.book.now.n in
     let s = state_of c.args.book.now c.args.lengths.now in
     let s' = state_of c.bar.new.self c.args.lengths.now in
@@ -51,7 +51,7 @@ returns-in-Bar-switch g c = λ number n first h to.
 pub returns-in-Unbar : goal.returns-in-Unbar
 returns-in-Unbar g c = λ number n first h to.
     let K = g.L.Length.kind in
-    let F = form_of K g.L.Length.octets g.L.TapeLength.meant g.L.Printed.printed in
+    let F = form_of K g.L.Length.WIDTH g.L.TapeLength.meant g.L.Printed.printed in
     let R = Meaning K c.args.book.now.n in
     let s = state_of c.args.book.now c.args.lengths.now in
     let s' = state_of c.unbar.new.self c.args.lengths.now in
@@ -62,7 +62,7 @@ returns-in-Unbar g c = λ number n first h to.
 pub returns-in-Home : goal.returns-in-Home
 returns-in-Home g c = λ number n first h to.
     let K = g.L.Length.kind in
-    let F = form_of K g.L.Length.octets g.L.TapeLength.meant g.L.Printed.printed in
+    let F = form_of K g.L.Length.WIDTH g.L.TapeLength.meant g.L.Printed.printed in
     let s = state_of c.args.book.now c.args.lengths.now in
     let s' = state_of c.run_home.new.book c.run_home.new.lengths in
     let x = c.in-Home.home in

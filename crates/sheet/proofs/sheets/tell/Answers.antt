@@ -6,19 +6,19 @@ use Rattle.sheet.proofs.sheets.tell.Goals as goal
 
 pub returns-in-Err : goal.returns-in-Err
 returns-in-Err g c =
-    let F = form_of g.L.Length.kind g.L.Length.octets g.L.TapeLength.meant g.L.Printed.printed in
+    let F = form_of g.L.Length.kind g.L.Length.WIDTH g.L.TapeLength.meant g.L.Printed.printed in
     tells_misfit F c.args.n c.args.tape.now (string_bytes c.args.out.now) c.deref.result.now (c.deref.ensures.value ∙ c.in_ok-lengths.ensures) c.in-Err.fault c.in-Err.ensures
     (string_bytes c.print_fault_at.new.out) c.in_ok-print_fault_at.ensures
 
 pub tell_records-requires : goal.tell_records-requires
 tell_records-requires g c =
-    let F = form_of g.L.Length.kind g.L.Length.octets g.L.TapeLength.meant g.L.Printed.printed in
+    let F = form_of g.L.Length.kind g.L.Length.WIDTH g.L.TapeLength.meant g.L.Printed.printed in
     let new = c.new-book.ensures in
     is_new F c.args.n c.args.tape.now (string_bytes c.args.out.now) c.new-book.result c.deref_mut.result.now new.number.0 new.number.1 new.empty.0 new.empty.1 (c.deref_mut.ensures.value ∙ c.in_ok-lengths.ensures)
 
 pub returns : goal.returns
 returns g c =
-    let F = form_of g.L.Length.kind g.L.Length.octets g.L.TapeLength.meant g.L.Printed.printed in
+    let F = form_of g.L.Length.kind g.L.Length.WIDTH g.L.TapeLength.meant g.L.Printed.printed in
     let new = c.new-book.ensures in
     tells_fit F c.args.n c.args.tape.now (string_bytes c.args.out.now) (ltb (length c.deref.result.now) c.args.n) c.in_default.ensures (state_of c.new-book.result c.deref_mut.result.now)
     (is_new F c.args.n c.args.tape.now (string_bytes c.args.out.now) c.new-book.result c.deref_mut.result.now new.number.0 new.number.1 new.empty.0 new.empty.1 (c.deref_mut.ensures.value ∙ c.in_ok-lengths.ensures))

@@ -16,7 +16,7 @@ returns-in_err-placed g c = λ number n first h to.
 
 pub returns-in_err-effect : goal.returns-in_err-effect
 returns-in_err-effect g c = λ number n first h to.
-    let F = form_of g.L.Length.kind g.L.Length.octets g.L.TapeLength.meant g.L.Printed.printed in
+    let F = form_of g.L.Length.kind g.L.Length.WIDTH g.L.TapeLength.meant g.L.Printed.printed in
     let s = state_of c.args.book.now c.args.lengths.now in
     let s' = state_of c.apply.new.book c.apply.new.lengths in
     let placed = c.in_ok-placed.placed in
@@ -27,7 +27,7 @@ returns-in_err-effect g c = λ number n first h to.
 
 pub returns : goal.returns
 returns g c = λ number n first h to.
-    let F = form_of g.L.Length.kind g.L.Length.octets g.L.TapeLength.meant g.L.Printed.printed in
+    let F = form_of g.L.Length.kind g.L.Length.WIDTH g.L.TapeLength.meant g.L.Printed.printed in
     let s = state_of c.args.book.now c.args.lengths.now in
     let s' = state_of c.apply.new.book c.apply.new.lengths in
     let placed = c.in_ok-placed.placed in

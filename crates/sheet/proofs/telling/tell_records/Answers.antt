@@ -6,7 +6,7 @@ use Rattle.sheet.proofs.telling.tell_records.Goals as goal
 
 pub loop-at-init : goal.loop-at-init
 loop-at-init g c =
-    let F = form_of g.L.Length.kind g.L.Length.octets g.L.TapeLength.meant g.L.Printed.printed in
+    let F = form_of g.L.Length.kind g.L.Length.WIDTH g.L.TapeLength.meant g.L.Printed.printed in
     let n = c.args.n in
     let first = replicate (n + 4096) g.L.Length.kind.none in
     let tape = c.args.tape.now in
@@ -17,7 +17,7 @@ loop-at-init g c =
 
 pub returns-in-Err : goal.returns-in-Err
 returns-in-Err g c =
-    let F = form_of g.L.Length.kind g.L.Length.octets g.L.TapeLength.meant g.L.Printed.printed in
+    let F = form_of g.L.Length.kind g.L.Length.WIDTH g.L.TapeLength.meant g.L.Printed.printed in
     let n = c.args.n in
     let first = replicate (n + 4096) g.L.Length.kind.none in
     let tape = c.args.tape.now in
@@ -33,7 +33,7 @@ returns-in-Err g c =
 
 pub loop-at-smaller : goal.loop-at-smaller
 loop-at-smaller g c =
-    let F = form_of g.L.Length.kind g.L.Length.octets g.L.TapeLength.meant g.L.Printed.printed in
+    let F = form_of g.L.Length.kind g.L.Length.WIDTH g.L.TapeLength.meant g.L.Printed.printed in
     let n = c.args.n in
     let first = replicate (n + 4096) g.L.Length.kind.none in
     let tape = c.args.tape.now in
@@ -50,7 +50,7 @@ loop-at-smaller g c =
 
 pub loop-at-preserved : goal.loop-at-preserved
 loop-at-preserved g c =
-    let F = form_of g.L.Length.kind g.L.Length.octets g.L.TapeLength.meant g.L.Printed.printed in
+    let F = form_of g.L.Length.kind g.L.Length.WIDTH g.L.TapeLength.meant g.L.Printed.printed in
     let n = c.args.n in
     let first = replicate (n + 4096) g.L.Length.kind.none in
     let tape = c.args.tape.now in
@@ -67,7 +67,7 @@ loop-at-preserved g c =
 
 pub returns : goal.returns
 returns g c =
-    let F = form_of g.L.Length.kind g.L.Length.octets g.L.TapeLength.meant g.L.Printed.printed in
+    let F = form_of g.L.Length.kind g.L.Length.WIDTH g.L.TapeLength.meant g.L.Printed.printed in
     let n = c.args.n in
     let first = replicate (n + 4096) g.L.Length.kind.none in
     let tape = c.args.tape.now in
