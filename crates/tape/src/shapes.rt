@@ -50,10 +50,6 @@ pub(crate) fn size_of<L: Length>(map: u8) -> usize
     ensures { result ≡ min (size_of L.Length.WIDTH map) (2 ^ 64 - 1) }
 {
     let fields = (map & FIELDS).count_ones() as usize;
-    let width = if map & LENGTH == LENGTH {
-        L::WIDTH
-    } else {
-        0
-    };
+    let width = if map & LENGTH == LENGTH { L::WIDTH } else { 0 };
     (1 + 2 * fields).saturating_add(width)
 }
