@@ -6,8 +6,9 @@ use book::Book;
 use book::making::MOST_EXCHANGES;
 use book::outcome::Ending;
 use printing::lines::{print_blank, print_exchange, print_first, print_trunks};
-use printing::printed::{NoMemory, Printed};
+use printing::printed::Printed;
 use routing::Length;
+use std::alloc::AllocError;
 
 // The lines of the exchanges below `n`, with a blank line after every tenth.
 fn print_exchanges<L: Length + Printed>(
@@ -15,7 +16,7 @@ fn print_exchanges<L: Length + Printed>(
     book: &Book,
     lengths: &[L],
     n: u16,
-) -> Result<(), NoMemory>
+) -> Result<(), AllocError>
     ensures { OnOk result (string_bytes out.new ≡ string_bytes out.old ++ exchanges_read L.Length.kind L.Printed.printed (state_of book.now lengths.now) n) }
 {
     for x in 0..n {
@@ -32,14 +33,13 @@ fn print_loop<L: Length + Printed>(
     out: &mut String,
     book: &Book,
     lengths: &[L],
-) -> Result<(), NoMemory>
+) -> Result<(), AllocError>
     ensures { OnOk result (string_bytes out.new ≡ string_bytes out.old ++ loop_read L.Length.kind L.Printed.printed (state_of book.now lengths.now)) }
 {
     // No loop has more trunks than a book may have exchanges.
     let mut trunks = [0u16; MOST_EXCHANGES];
     let count = book.loop_trunks(lengths, &mut trunks).unwrap_or(0);
-    print_trunks(out, &trunks[0..count])?;
-    Ok(())
+    print_trunks(out, &trunks[..count])
 }
 
 // The lines of a finished run over `n` exchanges, which ended so.
@@ -50,18 +50,17 @@ pub fn print_block<L: Length + Printed>(
     n: u16,
     home: u16,
     ending: Ending,
-) -> Result<(), NoMemory>
+) -> Result<(), AllocError>
     ensures { OnOk result (string_bytes out.new ≡ string_bytes out.old ++ block_read L.Length.kind L.Printed.printed (state_of book.now lengths.now) n home ending) }
 {
     match ending {
         Ending::Settled { passes, scans } => {
             print_first(out, home, "settled", passes, scans)?;
-            print_exchanges(out, book, lengths, n)?;
+            print_exchanges(out, book, lengths, n)
         }
         Ending::Loop { passes, scans } => {
             print_first(out, home, "loop", passes, scans)?;
-            print_loop(out, book, lengths)?;
+            print_loop(out, book, lengths)
         }
     }
-    Ok(())
 }
