@@ -9,21 +9,21 @@ use Rattle.book.specs.declared.Book.{Book}
 use Rattle.book.specs.declared.Phase.{Phase as Stage}
 use Rattle.book.specs.declared.Phase.TheVariants.{Idle}
 use Rattle.book.specs.declared.refusal.Refusal.TheVariants.{BadSize}
+use Rattle.book.specs.declared.refusal.Refusal.{Refusal}
+use Rattle.book.specs.Answers.{fitness}
 use Rattle.book.specs.State.{phase_of, state_of}
-use Rattle.tape.specs.declared.faults.RecordFault.{RecordFault}
 use Rattle.tape.specs.declared.faults.RecordFault.TheVariants.{Book as in_book}
 use Rattle.tape.specs.Faults.{layer_of, number_of}
 use Rattle.printing.specs.Lines.{fault_line}
-use Rattle.sheet.specs.Sheet.{fit_fault}
 use Rattle.sheet.specs.Told.{Form, faulty, told_from, told, new_book, text_of, AllRight, TellsAll}
 
 -- no book of so many exchanges
-misfit : (bad : Bool) (n size : ℕ) → n ≤ size → (f : RecordFault) → Err f ≡ fit_fault bad (ltb size n) → (bad ≡ true) × (f ≡ in_book BadSize)
-misfit true n size room f e = (refl, cc)
-misfit false n size room f e = let short : ltb size n ≡ false = le-ltb size n room in let z : ◌≡◌ {A = ℕ} 0 1 = cc in absurd (omega arith)
+misfit : (bad : Bool) (n size : ℕ) → n ≤ size → (k : Refusal) → Err k ≡ fitness bad (ltb size n) → (bad ≡ true) × (k ≡ BadSize)
+misfit true n size room k e = (refl, cc)
+misfit false n size room k e = let short : ltb size n ≡ false = le-ltb size n room in let z : ◌≡◌ {A = ℕ} 0 1 = cc in absurd (omega arith)
 
 -- a book can be made
-well_fit : (bad : Bool) (short : Bool) → Ok tt ≡ fit_fault bad short → bad ≡ false
+well_fit : (bad : Bool) (short : Bool) → Ok tt ≡ fitness bad short → bad ≡ false
 well_fit true short e = let z : ◌≡◌ {A = ℕ} 0 1 = cc in absurd (omega arith)
 well_fit false short e = refl
 
@@ -35,16 +35,16 @@ module _ {L : Type 0} (F : Form L) (n : ℕ) (tape before : List ℕ) where
   places_enough : (ls : List L) → ls ≡ replicate (n + 4096) F.kind.none → n ≤ length ls
   places_enough ls are = omega (arith, ap length are ∙ length-replicate (n + 4096) F.kind.none)
 
-  pub tells_misfit : (ls : List L) → ls ≡ replicate (n + 4096) F.kind.none → (f : RecordFault) → Err f ≡ fit_fault bad (ltb (length ls) n) → (out : List ℕ) → out ≡ before ++ fault_line (layer_of f) (number_of f) 0 → TellsAll F n (told F n tape) before out
-  tells_misfit ls are f why out printed =
-      let m = misfit bad n (length ls) (places_enough ls are) f why in
+  pub tells_misfit : (ls : List L) → ls ≡ replicate (n + 4096) F.kind.none → (k : Refusal) → Err k ≡ fitness bad (ltb (length ls) n) → (out : List ℕ) → out ≡ before ++ fault_line (layer_of (in_book k)) (number_of (in_book k)) 0 → TellsAll F n (told F n tape) before out
+  tells_misfit ls are k why out printed =
+      let m = misfit bad n (length ls) (places_enough ls are) k why in
       let is : told F n tape ≡ faulty 3 1 0 = cond-true bad (faulty 3 1 0) _ m.0 in
       record {
-        text = printed ∙ ap (λ (g : RecordFault). before ++ fault_line (layer_of g) (number_of g) 0) m.1 ∙ ap (λ t. before ++ text_of F n t) (sym is);
+        text = printed ∙ ap (λ (i : Refusal). before ++ fault_line (layer_of (in_book i)) (number_of (in_book i)) 0) m.1 ∙ ap (λ t. before ++ text_of F n t) (sym is);
         right = subst (λ t. AllRight F n t.blocks) (sym is) tt;
       }
 
-  pub tells_fit : (short : Bool) → Ok tt ≡ fit_fault bad short → (s : State L) → s ≡ new_book F n → (out : List ℕ) → TellsAll F n (told_from F (length tape) tape 4 s []) before out → TellsAll F n (told F n tape) before out
+  pub tells_fit : (short : Bool) → Ok tt ≡ fitness bad short → (s : State L) → s ≡ new_book F n → (out : List ℕ) → TellsAll F n (told_from F (length tape) tape 4 s []) before out → TellsAll F n (told F n tape) before out
   tells_fit short fits s new out t =
       let is : told F n tape ≡ told_from F (length tape) tape 4 (new_book F n) [] = cond-false bad (faulty 3 1 0) _ (well_fit bad short fits) in
       subst (λ w. TellsAll F n w before out) (ap (λ q. told_from F (length tape) tape 4 q []) new ∙ sym is) t

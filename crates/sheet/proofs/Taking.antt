@@ -16,11 +16,9 @@ use Rattle.book.specs.declared.refusal.Refusal.{Refusal}
 use Rattle.book.specs.Answers.{answer_by}
 use Rattle.book.specs.Refusal.{number_of}
 use Rattle.replay.proofs.Makings.{never_done, never_numbered}
-use Rattle.tape.specs.declared.faults.RecordFault.{RecordFault}
 use Rattle.tape.specs.Format.{Item, lay, reprice, bar, home}
 use Rattle.blocks.specs.Homes.{Topologically, RunsHome, HomesRight}
-use Rattle.sheet.specs.declared.applying.Effect.{Effect}
-use Rattle.sheet.specs.Applying.{Applied, MadeBy, changed_of, ran_of}
+use Rattle.sheet.specs.Applying.{Answered, Applied, MadeBy, changed_of, ran_of}
 use Rattle.sheet.specs.Told.{Form, blocks_of, call_of, noted, taken}
 
 -- an edit makes the same of two histories of one tariff
@@ -115,6 +113,6 @@ module _ {L : Type 0} (F : Form L) (number n : ℕ) (first : List L) where
       go (RunsHome.stands none is stood told) on = Applied.runs refl none (ap (ran_of x) is) stood told on
 
   -- said of the record and of the answer by other names
-  pub said_as : (h : History L) (s s' : State L) (item item' : Item) (r r' : Result Effect RecordFault) → item ≡ item' → r ≡ r' → Applied F number n first h s item' r' s' → Applied F number n first h s item r s'
+  pub said_as : (h : History L) (s s' : State L) (item item' : Item) (r r' : Answered) → item ≡ item' → r ≡ r' → Applied F number n first h s item' r' s' → Applied F number n first h s item r s'
   said_as h s s' item item' r r' e f a =
-      subst (λ (i : Item). Applied F number n first h s i r s') (sym e) (subst (λ (y : Result Effect RecordFault). Applied F number n first h s item' y s') (sym f) a)
+      subst (λ (i : Item). Applied F number n first h s i r s') (sym e) (subst (λ (y : Answered). Applied F number n first h s item' y s') (sym f) a)

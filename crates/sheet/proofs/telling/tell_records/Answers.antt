@@ -1,4 +1,5 @@
 use Rattle.std.proofs.Common.{◌+◌, [], length, replicate, string_bytes, refl, arith}
+use Rattle.std.proofs.lemmas.Result.{on_ok_weaker}
 use Rattle.book.specs.State.{state_of}
 use Rattle.sheet.specs.Told.{form_of, told_from}
 use Rattle.sheet.proofs.Resting.{made_new, rest_at_first, tells_fault_at, tells_more, tells_over}
@@ -28,8 +29,9 @@ returns-in-Err g c =
     let s' = state_of c.take_record.new.book c.take_record.new.lengths in
     let at = c.loop-at.at in
     let inv = c.loop-at.invariant in
-    tells_fault_at F 0 n first tape whole before s s' (string_bytes c.loop-at.out) (string_bytes c.print_fault_at.new.out) at inv c.in-Err.fault c.loop-at-test.true
-    (c.in-Err.ensures 0 n first inv.changes inv.made) c.in_ok-print_fault_at-in-Err.ensures
+    on_ok_weaker c.print_fault_at.result
+    (tells_fault_at F 0 n first tape whole before s s' (string_bytes c.loop-at.out) (string_bytes c.print_fault_at.new.out) at inv c.in-Err.fault c.loop-at-test.true (c.in-Err.ensures 0 n first inv.changes inv.made))
+    c.print_fault_at.ensures
 
 pub loop-at-smaller : goal.loop-at-smaller
 loop-at-smaller g c =
@@ -44,8 +46,8 @@ loop-at-smaller g c =
     let s' = state_of c.take_record.new.book c.take_record.new.lengths in
     let at = c.loop-at.at in
     let inv = c.loop-at.invariant in
-    let m = tells_more F 0 n first tape whole before s s' (string_bytes c.loop-at.out) (string_bytes c.print_effect.new.out) at inv c.in-Ok.effect c.in-Ok.end c.loop-at-test.true
-    (c.in-Ok.ensures 0 n first inv.changes inv.made) c.in_ok-print_effect-in-Ok.ensures in
+    let m = tells_more F 0 n first tape whole before s s' (string_bytes c.loop-at.out) (string_bytes c.print_run.new.out) at inv c.in-Ok.ran c.in-Ok.end c.loop-at-test.true
+    (c.in-Ok.ensures 0 n first inv.changes inv.made) c.in_ok-print_run-in-Ok.ensures in
     omega (arith, m.1, c.loop-at-test.true)
 
 pub loop-at-preserved : goal.loop-at-preserved
@@ -61,8 +63,8 @@ loop-at-preserved g c =
     let s' = state_of c.take_record.new.book c.take_record.new.lengths in
     let at = c.loop-at.at in
     let inv = c.loop-at.invariant in
-    let m = tells_more F 0 n first tape whole before s s' (string_bytes c.loop-at.out) (string_bytes c.print_effect.new.out) at inv c.in-Ok.effect c.in-Ok.end c.loop-at-test.true
-    (c.in-Ok.ensures 0 n first inv.changes inv.made) c.in_ok-print_effect-in-Ok.ensures in
+    let m = tells_more F 0 n first tape whole before s s' (string_bytes c.loop-at.out) (string_bytes c.print_run.new.out) at inv c.in-Ok.ran c.in-Ok.end c.loop-at-test.true
+    (c.in-Ok.ensures 0 n first inv.changes inv.made) c.in_ok-print_run-in-Ok.ensures in
     m.0
 
 pub returns : goal.returns
