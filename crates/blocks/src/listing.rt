@@ -17,7 +17,7 @@ fn print_exchanges<L: Length + Printed>(
     lengths: &[L],
     n: u16,
 ) -> Result<(), AllocError>
-    ensures { OnOk result (string_bytes out.new ≡ string_bytes out.old ++ exchanges_read L.Length.kind L.Printed.printed (state_of book.now lengths.now) n) }
+    ensures { OnOk result (string_bytes out.new ≡ string_bytes out.old ++ exchanges_read L.kind L.printed (state_of book.now lengths.now) n) }
 {
     for x in 0..n {
         let label = book.charge(lengths, x).unwrap_or(None);
@@ -34,7 +34,7 @@ fn print_loop<L: Length + Printed>(
     book: &Book,
     lengths: &[L],
 ) -> Result<(), AllocError>
-    ensures { OnOk result (string_bytes out.new ≡ string_bytes out.old ++ loop_read L.Length.kind L.Printed.printed (state_of book.now lengths.now)) }
+    ensures { OnOk result (string_bytes out.new ≡ string_bytes out.old ++ loop_read L.kind L.printed (state_of book.now lengths.now)) }
 {
     // No loop has more trunks than a book may have exchanges.
     let mut trunks = [0u16; MOST_EXCHANGES];
@@ -51,7 +51,7 @@ pub fn print_block<L: Length + Printed>(
     home: u16,
     ending: Ending,
 ) -> Result<(), AllocError>
-    ensures { OnOk result (string_bytes out.new ≡ string_bytes out.old ++ block_read L.Length.kind L.Printed.printed (state_of book.now lengths.now) n home ending) }
+    ensures { OnOk result (string_bytes out.new ≡ string_bytes out.old ++ block_read L.kind L.printed (state_of book.now lengths.now) n home ending) }
 {
     match ending {
         Ending::Settled { passes, scans } => {

@@ -31,7 +31,7 @@ pub fn print_exchange<L: Printed>(
     label: Option<L>,
     arrival: Option<u16>,
 ) -> Result<(), AllocError>
-    ensures { OnOk result (string_bytes out.new ≡ string_bytes out.old ++ exchange_line L.Printed.printed x label arrival) }
+    ensures { OnOk result (string_bytes out.new ≡ string_bytes out.old ++ exchange_line L.printed x label arrival) }
 {
     writeln!(out, "{x} {} {}", OrDash(label), OrDash(arrival))
 }

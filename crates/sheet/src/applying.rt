@@ -26,7 +26,7 @@ pub(crate) fn apply<L: TapeLength + Printed>(
     lengths: &mut [L],
     item: Record<'_>,
 ) -> Result<Option<Ran>, Refusal>
-    ensures { Applies (form_of L.Length.kind L.Length.WIDTH L.TapeLength.meant L.Printed.printed) (state_of book.old lengths.old) (item_of item.entry) result (state_of book.new lengths.new) }
+    ensures { Applies (form_of L.kind L.WIDTH L.meant L.printed) (state_of book.old lengths.old) (item_of item.entry) result (state_of book.new lengths.new) }
 {
     match item {
         Record::Lay { from, to, length } => book

@@ -17,7 +17,7 @@ use tape::on_tape::TapeLength;
 
 // A length list with places for the labels of `n` exchanges and the lengths of as many trunks as may be.
 fn places<L: Length>(heap: Global, n: u16) -> Result<Vec<L>, AllocError>
-    ensures { IfOk result (λ v. v.items ≡ replicate (n + 4096) L.Length.kind.none) }
+    ensures { IfOk result (λ v. v.items ≡ replicate (n + 4096) L.kind.none) }
 {
     let mut lengths = Vec::new(heap);
     lengths.resize(n as usize + MOST_TRUNKS, L::zero())?;
@@ -31,7 +31,7 @@ fn tell<L: TapeLength + Printed>(
     n: u16,
     out: &mut String,
 ) -> Result<(), AllocError>
-    ensures { OnOk result (TellsAll (form_of L.Length.kind L.Length.WIDTH L.TapeLength.meant L.Printed.printed) n (told (form_of L.Length.kind L.Length.WIDTH L.TapeLength.meant L.Printed.printed) n tape.now) (string_bytes out.old) (string_bytes out.new)) }
+    ensures { OnOk result (TellsAll (form_of L.kind L.WIDTH L.meant L.printed) n (told (form_of L.kind L.WIDTH L.meant L.printed) n tape.now) (string_bytes out.old) (string_bytes out.new)) }
 {
     let mut lengths = places::<L>(heap, n)?;
     if let Err(refusal) = fit(n as usize, &lengths) {

@@ -24,7 +24,7 @@ fn take_record<L: TapeLength + Printed>(
     tape: &[u8],
     at: usize,
 ) -> Result<(Option<Ran>, usize), RecordFault>
-    ensures { Takes (form_of L.Length.kind L.Length.WIDTH L.TapeLength.meant L.Printed.printed) tape.now at (state_of book.old lengths.old) result (state_of book.new lengths.new) }
+    ensures { Takes (form_of L.kind L.WIDTH L.meant L.printed) tape.now at (state_of book.old lengths.old) result (state_of book.new lengths.new) }
 {
     let placed = read_record::<L>(tape, at)?;
     let ran = apply(book, lengths, placed.record)?;
@@ -39,7 +39,7 @@ fn print_run<L: TapeLength + Printed>(
     n: u16,
     ran: Option<Ran>,
 ) -> Result<(), AllocError>
-    ensures { OnOk result (string_bytes out.new ≡ string_bytes out.old ++ run_read L.Length.kind L.Printed.printed (state_of book.now lengths.now) n ran) }
+    ensures { OnOk result (string_bytes out.new ≡ string_bytes out.old ++ run_read L.kind L.printed (state_of book.now lengths.now) n ran) }
 {
     match ran {
         None => Ok(()),
@@ -66,8 +66,8 @@ pub(crate) fn tell_records<L: TapeLength + Printed>(
     n: u16,
     out: &mut String,
 ) -> Result<(), AllocError>
-    requires { state_of book.old lengths.old ≡ new_book (form_of L.Length.kind L.Length.WIDTH L.TapeLength.meant L.Printed.printed) n }
-    ensures { OnOk result (TellsAll (form_of L.Length.kind L.Length.WIDTH L.TapeLength.meant L.Printed.printed) n (told_from (form_of L.Length.kind L.Length.WIDTH L.TapeLength.meant L.Printed.printed) (length tape.now) tape.now 4 (state_of book.old lengths.old) []) (string_bytes out.old) (string_bytes out.new)) }
+    requires { state_of book.old lengths.old ≡ new_book (form_of L.kind L.WIDTH L.meant L.printed) n }
+    ensures { OnOk result (TellsAll (form_of L.kind L.WIDTH L.meant L.printed) n (told_from (form_of L.kind L.WIDTH L.meant L.printed) (length tape.now) tape.now 4 (state_of book.old lengths.old) []) (string_bytes out.old) (string_bytes out.new)) }
 {
     let mut at = HEAD_BYTES;
     while at < tape.len() {

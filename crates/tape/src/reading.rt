@@ -13,7 +13,7 @@ use routing::Length;
 
 // Reads the record at `at`: first its map, then that its bytes are there, then its state.
 pub fn read_record<'a, L: Length>(tape: &'a [u8], at: usize) -> Result<Placed<'a>, RecordFault>
-    ensures reads { read_as result ≡ record_at L.Length.WIDTH tape.now at }
+    ensures reads { read_as result ≡ record_at L.WIDTH tape.now at }
     ensures place { IfOk result (λ p. p.at ≡ at) }
     ensures within { IfOk result (λ p. (at < p.end) × (p.end ≤ length tape.now)) }
     ensures same { IfOk result (λ p. record_bytes (item_of p.record) ≡ slice_range tape.now at p.end) }
@@ -51,9 +51,9 @@ fn bytes_from<'a>(tape: &'a [u8], at: usize, count: usize) -> Result<&'a [u8], T
 // Reads the record at the front of `bytes`, which has this form and is there as a whole.
 fn read_fields<'a, L: Length>(shape: Shape, bytes: &'a [u8]) -> Result<Record<'a>, RecordFault>
     requires map { slice_index bytes.now 0 ≡ map_of shape }
-    requires whole { size_of L.Length.WIDTH (map_of shape) ≤ length bytes.now }
-    ensures reads { MatchResult result (λ x. (item_of x ≡ item_in L.Length.WIDTH bytes.now) × (legal_state (item_of x) ≡ true)) (λ f. (f ≡ of_content bad_state) × (legal_state (item_in L.Length.WIDTH bytes.now) ≡ false)) }
-    ensures same { IfOk result (λ x. record_bytes (item_of x) ≡ take (size_of L.Length.WIDTH (map_of shape)) bytes.now) }
+    requires whole { size_of L.WIDTH (map_of shape) ≤ length bytes.now }
+    ensures reads { MatchResult result (λ x. (item_of x ≡ item_in L.WIDTH bytes.now) × (legal_state (item_of x) ≡ true)) (λ f. (f ≡ of_content bad_state) × (legal_state (item_in L.WIDTH bytes.now) ≡ false)) }
+    ensures same { IfOk result (λ x. record_bytes (item_of x) ≡ take (size_of L.WIDTH (map_of shape)) bytes.now) }
 {
     match shape {
         Shape::Lay => Ok(Record::Lay {
@@ -77,8 +77,8 @@ fn read_fields<'a, L: Length>(shape: Shape, bytes: &'a [u8]) -> Result<Record<'a
 
 // The bytes of the length at `at`.
 fn length_at<'a, L: Length>(bytes: &'a [u8], at: usize) -> &'a [u8]
-    requires { at + L.Length.WIDTH ≤ length bytes.now }
-    ensures { result.now ≡ take L.Length.WIDTH (drop at bytes.now) }
+    requires { at + L.WIDTH ≤ length bytes.now }
+    ensures { result.now ≡ take L.WIDTH (drop at bytes.now) }
 {
     &bytes[at..at + L::WIDTH]
 }

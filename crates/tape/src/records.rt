@@ -64,7 +64,7 @@ impl Record<'_> {
 
     // Whether its length, if it has one, is as wide as a length of this kind.
     pub(crate) fn is_of_width<L: Length>(self) -> bool
-        ensures { result ≡ of_width L.Length.WIDTH (item_of self.entry) }
+        ensures { result ≡ of_width L.WIDTH (item_of self.entry) }
     {
         match self {
             Record::Lay { length, .. } => length.len() == L::WIDTH,

@@ -47,7 +47,7 @@ impl Shape {
 
 // How many bytes a record with this map has. A sum over the largest number stays at it, and no tape is so long.
 pub(crate) fn size_of<L: Length>(map: u8) -> usize
-    ensures { result ≡ min (size_of L.Length.WIDTH map) (2 ^ 64 - 1) }
+    ensures { result ≡ min (size_of L.WIDTH map) (2 ^ 64 - 1) }
 {
     let fields = (map & FIELDS).count_ones() as usize;
     let width = if map & LENGTH == LENGTH { L::WIDTH } else { 0 };

@@ -11,9 +11,9 @@ use routing::Length;
 
 // Writes a record over the front of `into`, and answers how many bytes it has. A refusal writes nothing.
 pub fn write_record<L: Length>(item: Record<'_>, into: &mut [u8]) -> Result<usize, TapeFault>
-    ensures count { result ≡ count_of L.Length.WIDTH (item_of item.entry) (length into.old) }
-    ensures bytes { into.new ≡ bytes_after L.Length.WIDTH (item_of item.entry) into.old }
-    ensures back { IfOk result (λ n. record_at L.Length.WIDTH into.new 0 ≡ Ok (record { item = item_of item.entry; end = n })) }
+    ensures count { result ≡ count_of L.WIDTH (item_of item.entry) (length into.old) }
+    ensures bytes { into.new ≡ bytes_after L.WIDTH (item_of item.entry) into.old }
+    ensures back { IfOk result (λ n. record_at L.WIDTH into.new 0 ≡ Ok (record { item = item_of item.entry; end = n })) }
 {
     let size = size_within::<L>(item, into.len())?;
     write_fields(item, into);
@@ -23,7 +23,7 @@ pub fn write_record<L: Length>(item: Record<'_>, into: &mut [u8]) -> Result<usiz
 // How many bytes the record has, if its length is of its width and `room` bytes are enough.
 fn size_within<L: Length>(item: Record<'_>, room: usize) -> Result<usize, TapeFault>
     requires { room < 2 ^ 63 }
-    ensures { result ≡ count_of L.Length.WIDTH (item_of item.entry) room }
+    ensures { result ≡ count_of L.WIDTH (item_of item.entry) room }
 {
     let size = size_of::<L>(item.shape().map());
     if !item.is_of_width::<L>() || room < size {
