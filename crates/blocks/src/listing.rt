@@ -1,5 +1,6 @@
-ghost use Rattle.std.specs.Prelude.{◌≡◌, ◌++◌, string_bytes, OnOk};
+ghost use Rattle.std.specs.Prelude.{OnOk};
 ghost use Rattle.book.specs.State.{state_of};
+ghost use Rattle.printing.specs.Lines.{Adds};
 ghost use Rattle.blocks.specs.Listing.{block_read, exchanges_read, loop_read};
 
 use book::Book;
@@ -17,7 +18,7 @@ fn print_exchanges<L: Length + Printed>(
     lengths: &[L],
     n: u16,
 ) -> Result<(), AllocError>
-    ensures { OnOk result (string_bytes out.new ≡ string_bytes out.old ++ exchanges_read L.kind L.printed (state_of book.now lengths.now) n) }
+    ensures { OnOk result (Adds (exchanges_read L.kind L.printed (state_of book.now lengths.now) n) out.old out.new) }
 {
     for x in 0..n {
         let label = book.charge(lengths, x).unwrap_or(None);
@@ -34,7 +35,7 @@ fn print_loop<L: Length + Printed>(
     book: &Book,
     lengths: &[L],
 ) -> Result<(), AllocError>
-    ensures { OnOk result (string_bytes out.new ≡ string_bytes out.old ++ loop_read L.kind L.printed (state_of book.now lengths.now)) }
+    ensures { OnOk result (Adds (loop_read L.kind L.printed (state_of book.now lengths.now)) out.old out.new) }
 {
     // No loop has more trunks than a book may have exchanges.
     let mut trunks = [0u16; MOST_EXCHANGES];
@@ -51,7 +52,7 @@ pub fn print_block<L: Length + Printed>(
     home: u16,
     ending: Ending,
 ) -> Result<(), AllocError>
-    ensures { OnOk result (string_bytes out.new ≡ string_bytes out.old ++ block_read L.kind L.printed (state_of book.now lengths.now) n home ending) }
+    ensures { OnOk result (Adds (block_read L.kind L.printed (state_of book.now lengths.now) n home ending) out.old out.new) }
 {
     match ending {
         Ending::Settled { passes, scans } => {

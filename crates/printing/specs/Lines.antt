@@ -1,5 +1,10 @@
 -- The lines of a sheet, in bytes.
-use Rattle.std.specs.Prelude.{ℕ, zero, suc, ◌%◌, cond, List, [], ◌∷◌, ◌++◌, Some, None, codes, decimal, Option, ◌==◌}
+use Rattle.std.specs.Prelude.{◌≡◌, ℕ, zero, suc, ◌%◌, cond, List, [], ◌∷◌, ◌++◌, Some, None, codes, decimal, string_bytes, Option, String, ◌==◌}
+use Rattle.std.specs.declared.alloc.Global.{Global}
+
+-- a text has these bytes behind what it was
+abbrev pub Adds : List ℕ → String Global → String Global → Type 0
+Adds bytes old new = string_bytes new ≡ string_bytes old ++ bytes
 
 -- the end of a line
 abbrev pub newline : List ℕ

@@ -1,5 +1,5 @@
-ghost use Rattle.std.specs.Prelude.{◌≡◌, ◌++◌, string_bytes, OnOk};
-ghost use Rattle.printing.specs.Lines.{after_tenth, each_spaced, exchange_line, fault_line, first_line, spaced, trunk_line};
+ghost use Rattle.std.specs.Prelude.{OnOk};
+ghost use Rattle.printing.specs.Lines.{Adds, after_tenth, each_spaced, exchange_line, fault_line, first_line, spaced, trunk_line};
 
 use super::printed::{OrDash, Printed};
 use std::alloc::AllocError;
@@ -12,14 +12,14 @@ pub fn print_first(
     passes: u64,
     scans: u64,
 ) -> Result<(), AllocError>
-    ensures { OnOk result (string_bytes out.new ≡ string_bytes out.old ++ first_line home word.now passes scans) }
+    ensures { OnOk result (Adds (first_line home word.now passes scans) out.old out.new) }
 {
     writeln!(out, "home {home} {word} passes {passes} scans {scans}")
 }
 
 // The line of a fault: its layer, its number and the offset of its place.
 pub fn print_fault(out: &mut String, layer: u16, number: u16, at: usize) -> Result<(), AllocError>
-    ensures { OnOk result (string_bytes out.new ≡ string_bytes out.old ++ fault_line layer number at) }
+    ensures { OnOk result (Adds (fault_line layer number at) out.old out.new) }
 {
     writeln!(out, "fault {layer} {number} at {at}")
 }
@@ -31,14 +31,14 @@ pub fn print_exchange<L: Printed>(
     label: Option<L>,
     arrival: Option<u16>,
 ) -> Result<(), AllocError>
-    ensures { OnOk result (string_bytes out.new ≡ string_bytes out.old ++ exchange_line L.printed x label arrival) }
+    ensures { OnOk result (Adds (exchange_line L.printed x label arrival) out.old out.new) }
 {
     writeln!(out, "{x} {} {}", OrDash(label), OrDash(arrival))
 }
 
 // The blank line that follows every tenth of the exchange lines.
 pub fn print_blank(out: &mut String, x: u16) -> Result<(), AllocError>
-    ensures { OnOk result (string_bytes out.new ≡ string_bytes out.old ++ after_tenth x) }
+    ensures { OnOk result (Adds (after_tenth x) out.old out.new) }
 {
     if x % 10 == 9 {
         out.push_str("\n")?;
@@ -48,7 +48,7 @@ pub fn print_blank(out: &mut String, x: u16) -> Result<(), AllocError>
 
 // These numbers, each after a space.
 fn print_spaced(out: &mut String, numbers: &[u16]) -> Result<(), AllocError>
-    ensures { OnOk result (string_bytes out.new ≡ string_bytes out.old ++ each_spaced numbers.now) }
+    ensures { OnOk result (Adds (each_spaced numbers.now) out.old out.new) }
 {
     for t in numbers {
         write!(out, " {t}")?;
@@ -58,7 +58,7 @@ fn print_spaced(out: &mut String, numbers: &[u16]) -> Result<(), AllocError>
 
 // These numbers, with single spaces between them.
 fn print_numbers(out: &mut String, numbers: &[u16]) -> Result<(), AllocError>
-    ensures { OnOk result (string_bytes out.new ≡ string_bytes out.old ++ spaced numbers.now) }
+    ensures { OnOk result (Adds (spaced numbers.now) out.old out.new) }
 {
     let [first, rest @ ..] = numbers else {
         return Ok(());
@@ -69,7 +69,7 @@ fn print_numbers(out: &mut String, numbers: &[u16]) -> Result<(), AllocError>
 
 // The line of a loop: the numbers of its trunks.
 pub fn print_trunks(out: &mut String, trunks: &[u16]) -> Result<(), AllocError>
-    ensures { OnOk result (string_bytes out.new ≡ string_bytes out.old ++ trunk_line trunks.now) }
+    ensures { OnOk result (Adds (trunk_line trunks.now) out.old out.new) }
 {
     print_numbers(out, trunks)?;
     out.push_str("\n")

@@ -1,6 +1,6 @@
-ghost use Rattle.std.specs.Prelude.{◌≡◌, [], ◌++◌, length, string_bytes, OnOk};
+ghost use Rattle.std.specs.Prelude.{◌≡◌, [], length, string_bytes, OnOk};
 ghost use Rattle.book.specs.State.{state_of};
-ghost use Rattle.printing.specs.Lines.{fault_line};
+ghost use Rattle.printing.specs.Lines.{Adds, fault_line};
 ghost use Rattle.tape.specs.Faults.{layer_of, number_of};
 ghost use Rattle.sheet.specs.Taking.{Takes, run_read};
 ghost use Rattle.sheet.specs.Told.{TellsAll, form_of, new_book, told_from};
@@ -39,7 +39,7 @@ fn print_run<L: TapeLength + Printed>(
     n: u16,
     ran: Option<Ran>,
 ) -> Result<(), AllocError>
-    ensures { OnOk result (string_bytes out.new ≡ string_bytes out.old ++ run_read L.kind L.printed (state_of book.now lengths.now) n ran) }
+    ensures { OnOk result (Adds (run_read L.kind L.printed (state_of book.now lengths.now) n ran) out.old out.new) }
 {
     match ran {
         None => Ok(()),
@@ -53,7 +53,7 @@ pub(crate) fn print_fault_at(
     fault: RecordFault,
     at: usize,
 ) -> Result<(), AllocError>
-    ensures { OnOk result (string_bytes out.new ≡ string_bytes out.old ++ fault_line (layer_of fault) (number_of fault) at) }
+    ensures { OnOk result (Adds (fault_line (layer_of fault) (number_of fault) at) out.old out.new) }
 {
     print_fault(out, fault.layer() as u16, fault.number(), at)
 }
