@@ -1,12 +1,12 @@
 use Rattle.std.proofs.Common.{add-one, append_assoc}
 use Rattle.routing.specs.Readings.{charge, arrival}
-use Rattle.book.specs.State.{state_of}
+use Rattle.blocks.specs.Listing.{listed}
 use Rattle.blocks.proofs.Listed.{valued_as}
-use Rattle.blocks.proofs.listing.print_exchanges.Goals as goal
+use Rattle.blocks.proofs.listing.Listing.print_exchanges.Goals as goal
 
 pub loop-x-preserved : goal.loop-x-preserved
 loop-x-preserved g c =
-    let s = state_of c.args.book.now c.args.lengths.now in
+    let s = listed c.args.self.now in
     let x = c.loop-x.x in
     let next = add-one x in
     let so_far = c.loop-x.invariant in
