@@ -15,7 +15,7 @@ use Rattle.blocks.specs.Blocks.{Block, BlockRight, block_lines}
 use Rattle.blocks.specs.Homes.{block_of, run_from}
 use Rattle.blocks.proofs.Blocked.{home_lines, home_right}
 use Rattle.printing.specs.Lines.{fault_line}
-use Rattle.sheet.specs.declared.applying.Ran.{Ran}
+use Rattle.blocks.specs.declared.listing.Ran.{Ran}
 use Rattle.sheet.specs.Applying.{Applied, MadeBy}
 use Rattle.sheet.specs.Taking.{Taken, run_read}
 use Rattle.sheet.specs.Told.{Form, Told, silence, faulty, after_blocks, on_record, on_refusal, call_of, noted, taken, blocks_of, told_from, blocks_lines, text_of, AllRight, TellsAll}

@@ -9,7 +9,7 @@ use Rattle.book.specs.Refusal.{number_of}
 use Rattle.whole_run.specs.Whole.{Carried}
 use Rattle.tape.specs.Format.{Item, home}
 use Rattle.blocks.specs.Homes.{Topologically, run_from}
-use Rattle.sheet.specs.declared.applying.Ran.{Ran}
+use Rattle.blocks.specs.declared.listing.Ran.{Ran}
 use Rattle.sheet.specs.Told.{Form, blocks_of, call_of, noted, taken}
 
 -- what a record answers: the run of a home, or none of a change of the tariff; or the book's refusal

@@ -7,7 +7,7 @@ use Rattle.tape.specs.declared.faults.RecordFault.{RecordFault}
 use Rattle.tape.specs.declared.faults.RecordFault.TheVariants.{Book}
 use Rattle.tape.specs.Format.{Found, record_at}
 use Rattle.blocks.specs.Listing.{block_read}
-use Rattle.sheet.specs.declared.applying.Ran.{Ran}
+use Rattle.blocks.specs.declared.listing.Ran.{Ran}
 use Rattle.sheet.specs.Applying.{Applied, MadeBy}
 use Rattle.sheet.specs.Told.{Form}
 

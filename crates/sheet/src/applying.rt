@@ -5,20 +5,13 @@ ghost use Rattle.sheet.specs.Applying.{Applies};
 ghost use Rattle.sheet.specs.Told.{form_of};
 
 use blocks::homes::run_home;
+use blocks::listing::Ran;
 use book::Book;
-use book::outcome::Ending;
 use book::refusal::Refusal;
 use printing::printed::Printed;
 use routing::Length;
 use tape::on_tape::TapeLength;
 use tape::records::{Record, Switch};
-
-// A run that stands: from which home, and how it ended.
-#[derive(Clone, Copy)]
-pub(crate) struct Ran {
-    pub(crate) home: u16,
-    pub(crate) ending: Ending,
-}
 
 // Makes the call of a record. An accepted home answers its run.
 pub(crate) fn apply<L: TapeLength + Printed>(

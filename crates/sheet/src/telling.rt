@@ -2,11 +2,12 @@ ghost use Rattle.std.specs.Prelude.{◌≡◌, [], length, string_bytes, OnOk};
 ghost use Rattle.book.specs.State.{state_of};
 ghost use Rattle.printing.specs.Lines.{Adds, fault_line};
 ghost use Rattle.tape.specs.Faults.{layer_of, number_of};
+ghost use Rattle.blocks.specs.Listing.{listed};
 ghost use Rattle.sheet.specs.Taking.{Takes, run_read};
 ghost use Rattle.sheet.specs.Told.{TellsAll, form_of, new_book, told_from};
 
-use super::applying::{Ran, apply};
-use blocks::listing::print_block;
+use super::applying::apply;
+use blocks::listing::{Listing, Ran};
 use book::Book;
 use printing::lines::print_fault;
 use printing::printed::Printed;
@@ -34,16 +35,14 @@ fn take_record<L: TapeLength + Printed>(
 // The block of a run; a change of the tariff has none.
 fn print_run<L: TapeLength + Printed>(
     out: &mut String,
-    book: &Book,
-    lengths: &[L],
-    n: u16,
+    listing: &Listing<'_, L>,
     ran: Option<Ran>,
 ) -> Result<(), AllocError>
-    ensures { OnOk result (Adds (run_read L.kind L.printed (state_of book.now lengths.now) n ran) out.old out.new) }
+    ensures { OnOk result (Adds (run_read L.kind L.printed (listed listing.now) listing.now.n ran) out.old out.new) }
 {
     match ran {
         None => Ok(()),
-        Some(Ran { home, ending }) => print_block(out, book, lengths, n, home, ending),
+        Some(ran) => listing.print_block(out, ran),
     }
 }
 
@@ -74,7 +73,7 @@ pub(crate) fn tell_records<L: TapeLength + Printed>(
         match take_record(book, lengths, tape, at) {
             Err(fault) => return print_fault_at(out, fault, at),
             Ok((ran, end)) => {
-                print_run(out, book, lengths, n, ran)?;
+                print_run(out, &Listing { book, lengths, n }, ran)?;
                 at = end;
             }
         }
