@@ -1,11 +1,8 @@
-use Rattle.std.proofs.Common.{Err, Result, sym, refl, ap, ◌∙◌, subst}
+use Rattle.std.proofs.Common.{Err, sym, refl, ap, ◌∙◌}
 use Rattle.std.proofs.lemmas.Result.{err_from_is_err_and}
-use Rattle.book.specs.State.{state_of}
 use Rattle.tape.specs.declared.faults.RecordFault.{RecordFault}
-use Rattle.tape.specs.Reading.{item_of, read_as}
-use Rattle.sheet.specs.Applying.{Answered, Applied}
+use Rattle.tape.specs.Reading.{read_as}
 use Rattle.sheet.specs.Taking.{Taken}
-use Rattle.sheet.specs.Told.{form_of}
 use Rattle.sheet.proofs.telling.take_record.Goals as goal
 
 pub returns-in_err-placed : goal.returns-in_err-placed
@@ -15,22 +12,10 @@ returns-in_err-placed g c = λ number n first h to.
 
 pub returns-in_err-ran : goal.returns-in_err-ran
 returns-in_err-ran g c = λ number n first h to.
-    let F = form_of g.L.Length.kind g.L.Length.WIDTH g.L.TapeLength.meant g.L.Printed.printed in
-    let s = state_of c.args.book.now c.args.lengths.now in
-    let s' = state_of c.apply.new.book c.apply.new.lengths in
-    let placed = c.in_ok-placed.placed in
     let e = err_from_is_err_and c.from_residual-in_err-ran.result c.from_residual-in_err-ran.ensures.1 in
-    Taken.turned_away (sym c.read_record.ensures.reads ∙ ap read_as c.in_ok-placed.was)
-    (subst (λ (y : Answered). Applied F number n first h s (item_of placed.record) y s') c.in_err-ran.was (c.apply.ensures number n first h to))
-    (e.1 ∙ ap (λ (f : RecordFault). Err f) e.2)
+    Taken.turned_away (sym c.read_record.ensures.reads ∙ ap read_as c.in_ok-placed.was) (rw c.in_err-ran.was at (c.apply.ensures number n first h to)) (e.1 ∙ ap (λ (f : RecordFault). Err f) e.2)
 
 pub returns : goal.returns
 returns g c = λ number n first h to.
-    let F = form_of g.L.Length.kind g.L.Length.WIDTH g.L.TapeLength.meant g.L.Printed.printed in
-    let s = state_of c.args.book.now c.args.lengths.now in
-    let s' = state_of c.apply.new.book c.apply.new.lengths in
-    let placed = c.in_ok-placed.placed in
     let within = c.in_ok-placed.ensures.within in
-    Taken.applies (sym c.read_record.ensures.reads ∙ ap read_as c.in_ok-placed.was)
-    (subst (λ (y : Answered). Applied F number n first h s (item_of placed.record) y s') c.in_ok-ran.was (c.apply.ensures number n first h to))
-    refl within.0 within.1
+    Taken.applies (sym c.read_record.ensures.reads ∙ ap read_as c.in_ok-placed.was) (rw c.in_ok-ran.was at (c.apply.ensures number n first h to)) refl within.0 within.1
