@@ -63,8 +63,8 @@ module _ {L : Type 0} (F : Form L) where
     over_from zero at s h e = refl
     over_from (suc k) at s h e = cond-true (leb (length tape) at) silence _ (le-leb (length tape) at e)
 
-    pub tells_over : (s : State L) (out : List ℕ) (at : ℕ) → Rest s out at → length tape ≤ at → TellsAll F n whole before out
-    tells_over s out at r e =
+    pub tells_over : {s : State L} {out : List ℕ} {at : ℕ} → Rest s out at → length tape ≤ at → TellsAll F n whole before out
+    tells_over {s} {at = at} r e =
         let is : whole ≡ after_blocks r.blocks silence = r.is ∙ ap (after_blocks r.blocks) (over_from r.fuel at s r.changes e) in
         let same : whole ≡ record { blocks = r.blocks; fault = None } = is ∙ ap (λ bs. record { blocks = bs; fault = None }) (append-nil r.blocks) in
         record {
@@ -116,8 +116,8 @@ module _ {L : Type 0} (F : Form L) where
         next_from k at s h low ∙ ap (λ x. on_record x at (going k at s h)) found ∙ refused_from at s h p.item j s' _ applied ∙ ap (λ (y : RecordFault). faulty (layer_of y) (number_of y) at) (sym (same_fault f (Book j) is))
     fault_from (suc k) at s h s' f low enough (Taken.applies {p = p} {e = e} found applied is past within) = absurd (no_result (e, p.end) f (sym is))
 
-    pub tells_fault_at : (s s' : State L) (out out' : List ℕ) (at : ℕ) (r : Rest s out at) (f : RecordFault) → at < length tape → Taken F number n first r.changes tape at s (Err f) s' → out' ≡ out ++ fault_line (layer_of f) (number_of f) at → TellsAll F n whole before out'
-    tells_fault_at s s' out out' at r f low t printed = tells_fault s out out' at r (layer_of f) (number_of f) (fault_from r.fuel at s r.changes s' f low r.enough t) printed
+    pub tells_fault_at : {s s' : State L} {out out' : List ℕ} {at : ℕ} (r : Rest s out at) (f : RecordFault) → at < length tape → Taken F number n first r.changes tape at s (Err f) s' → out' ≡ out ++ fault_line (layer_of f) (number_of f) at → TellsAll F n whole before out'
+    tells_fault_at {s} {s'} {out} {out'} {at} r f low t printed = tells_fault s out out' at r (layer_of f) (number_of f) (fault_from r.fuel at s r.changes s' f low r.enough t) printed
 
     -- an accepted record: the book is as the rules say, and its lines are those of its blocks, which are right
     record Took (h : History L) (s : State L) (item : Item) (e : Option Ran) (s' : State L) : Type 0 where
@@ -165,11 +165,11 @@ module _ {L : Type 0} (F : Form L) where
     same_pair : (d e : Option Ran) (i j : ℕ) → ◌≡◌ {A = Result (Option Ran × ℕ) RecordFault} (Ok (d, i)) (Ok (e, j)) → (d ≡ e) × (i ≡ j)
     same_pair d e i j p = let q : ◌≡◌ {A = Option Ran × ℕ} (d, i) (e, j) = cc in (ap (λ (x : Option Ran × ℕ). x.0) q, ap (λ (x : Option Ran × ℕ). x.1) q)
 
-    pub tells_more : (s s' : State L) (out out' : List ℕ) (at : ℕ) (r : Rest s out at) (e : Option Ran) (end : ℕ) → at < length tape → Taken F number n first r.changes tape at s (Ok (e, end)) s' → out' ≡ out ++ run_read F.kind F.printed s' n e
+    pub tells_more : {s s' : State L} {out out' : List ℕ} {at : ℕ} (r : Rest s out at) (e : Option Ran) (end : ℕ) → at < length tape → Taken F number n first r.changes tape at s (Ok (e, end)) s' → out' ≡ out ++ run_read F.kind F.printed s' n e
         → Rest s' out' end × (at < end)
-    tells_more s s' out out' at r e end low (Taken.unread {f = f} unread is same) printed = absurd (no_result (e, end) f is)
-    tells_more s s' out out' at r e end low (Taken.turned_away {p = p} {k = j} found applied is) printed = absurd (no_result (e, end) (Book j) is)
-    tells_more s s' out out' at r e end low (Taken.applies {p = p} {e = d} found applied is past within) printed =
+    tells_more {s} {s'} {out} {out'} {at} r e end low (Taken.unread {f = f} unread is same) printed = absurd (no_result (e, end) f is)
+    tells_more {s} {s'} {out} {out'} {at} r e end low (Taken.turned_away {p = p} {k = j} found applied is) printed = absurd (no_result (e, end) (Book j) is)
+    tells_more {s} {s'} {out} {out'} {at} r e end low (Taken.applies {p = p} {e = d} found applied is past within) printed =
         let same = same_pair e d end p.end is in
         let t : Took r.changes s p.item d s' = took r.changes s r.made p.item d s' applied in
         let bs = blocks_of F p.item s r.changes in
