@@ -27,6 +27,15 @@ well_fit : (bad : Bool) (short : Bool) → Ok tt ≡ fitness bad short → bad �
 well_fit true short e = let z : ◌≡◌ {A = ℕ} 0 1 = cc in absurd (omega arith)
 well_fit false short e = refl
 
+-- a book that was just made
+pub is_new : {L : Type 0} (F : Form L) (n : ℕ) (b : Book) (ls : List L) → b.number ≡ 0 → b.n ≡ n → vec_items b.trunks ≡ [] → b.phase ≡ Idle → ls ≡ replicate (n + 4096) F.kind.none → state_of b ls ≡ new_book F n
+is_new {L} F n b ls number size trunks phase are =
+    ap (λ (k : ℕ). record { number = k; size = b.n; trunks = vec_items b.trunks; lengths = ls; phase = phase_of b.phase (run_of b.work ls) }) number
+    ∙ ap (λ (k : ℕ). record { number = 0; size = k; trunks = vec_items b.trunks; lengths = ls; phase = phase_of b.phase (run_of b.work ls) }) size
+    ∙ ap (λ (ts : List Trunk). record { number = 0; size = n; trunks = ts; lengths = ls; phase = phase_of b.phase (run_of b.work ls) }) trunks
+    ∙ ap (λ (p : Stage). record { number = 0; size = n; trunks = []; lengths = ls; phase = phase_of p (run_of b.work ls) }) phase
+    ∙ ap (λ (xs : List L). record { number = 0; size = n; trunks = []; lengths = xs; phase = Phase.idle }) are
+
 module _ {L : Type 0} (F : Form L) (n : ℕ) (tape before : List ℕ) where
   -- n is 0 or over 256
   abbrev bad : Bool
@@ -35,8 +44,8 @@ module _ {L : Type 0} (F : Form L) (n : ℕ) (tape before : List ℕ) where
   places_enough : (ls : List L) → ls ≡ replicate (n + 4096) F.kind.none → n ≤ length ls
   places_enough ls are = omega (arith, ap length are ∙ length-replicate (n + 4096) F.kind.none)
 
-  pub tells_misfit : (ls : List L) → ls ≡ replicate (n + 4096) F.kind.none → (k : Refusal) → Err k ≡ fitness bad (ltb (length ls) n) → (out : List ℕ) → out ≡ before ++ fault_line (layer_of (in_book k)) (number_of (in_book k)) 0 → TellsAll F n (told F n tape) before out
-  tells_misfit ls are k why out printed =
+  pub tells_misfit : {ls : List L} → ls ≡ replicate (n + 4096) F.kind.none → {k : Refusal} → Err k ≡ fitness bad (ltb (length ls) n) → {out : List ℕ} → out ≡ before ++ fault_line (layer_of (in_book k)) (number_of (in_book k)) 0 → TellsAll F n (told F n tape) before out
+  tells_misfit {ls} are {k} why printed =
       let m = misfit bad n (length ls) (places_enough ls are) k why in
       let is : told F n tape ≡ faulty 3 1 0 = cond-true bad (faulty 3 1 0) _ m.0 in
       record {
@@ -44,16 +53,7 @@ module _ {L : Type 0} (F : Form L) (n : ℕ) (tape before : List ℕ) where
         right = subst (λ t. AllRight F n t.blocks) (sym is) tt;
       }
 
-  pub tells_fit : (short : Bool) → Ok tt ≡ fitness bad short → (s : State L) → s ≡ new_book F n → (out : List ℕ) → TellsAll F n (told_from F (length tape) tape 4 s []) before out → TellsAll F n (told F n tape) before out
-  tells_fit short fits s new out t =
+  pub tells_fit : (short : Bool) → Ok tt ≡ fitness bad short → {s : State L} → s ≡ new_book F n → {out : List ℕ} → TellsAll F n (told_from F (length tape) tape 4 s []) before out → TellsAll F n (told F n tape) before out
+  tells_fit short fits new {out} t =
       let is : told F n tape ≡ told_from F (length tape) tape 4 (new_book F n) [] = cond-false bad (faulty 3 1 0) _ (well_fit bad short fits) in
       subst (λ w. TellsAll F n w before out) (ap (λ q. told_from F (length tape) tape 4 q []) new ∙ sym is) t
-
-  -- a book that was just made
-  pub is_new : (b : Book) (ls : List L) → b.number ≡ 0 → b.n ≡ n → vec_items b.trunks ≡ [] → b.phase ≡ Idle → ls ≡ replicate (n + 4096) F.kind.none → state_of b ls ≡ new_book F n
-  is_new b ls number size trunks phase are =
-      ap (λ (k : ℕ). record { number = k; size = b.n; trunks = vec_items b.trunks; lengths = ls; phase = phase_of b.phase (run_of b.work ls) }) number
-      ∙ ap (λ (k : ℕ). record { number = 0; size = k; trunks = vec_items b.trunks; lengths = ls; phase = phase_of b.phase (run_of b.work ls) }) size
-      ∙ ap (λ (ts : List Trunk). record { number = 0; size = n; trunks = ts; lengths = ls; phase = phase_of b.phase (run_of b.work ls) }) trunks
-      ∙ ap (λ (p : Stage). record { number = 0; size = n; trunks = []; lengths = ls; phase = phase_of p (run_of b.work ls) }) phase
-      ∙ ap (λ (xs : List L). record { number = 0; size = n; trunks = []; lengths = xs; phase = Phase.idle }) are

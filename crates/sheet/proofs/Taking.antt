@@ -18,7 +18,7 @@ use Rattle.book.specs.Refusal.{number_of}
 use Rattle.replay.proofs.Makings.{never_done, never_numbered}
 use Rattle.tape.specs.Format.{Item, lay, reprice, bar, home}
 use Rattle.blocks.specs.Homes.{Topologically, RunsHome, HomesRight}
-use Rattle.sheet.specs.Applying.{Answered, Applied, MadeBy, changed_of, ran_of}
+use Rattle.sheet.specs.Applying.{Applied, MadeBy, changed_of, ran_of}
 use Rattle.sheet.specs.Told.{Form, blocks_of, call_of, noted, taken}
 
 -- an edit makes the same of two histories of one tariff

@@ -1,5 +1,5 @@
 -- The sheet of a tape, for every tape whatever.
-use Rattle.std.specs.Prelude.{◌≡◌, ℕ, Bool, cond, List, ◌++◌, Ok, Err, Result, ◌==◌}
+use Rattle.std.specs.Prelude.{◌≡◌, ℕ, cond, List, ◌++◌, Ok, Err, Result, ◌==◌}
 use Rattle.lengths.specs.declared.charge.Charge.{Charge}
 use Rattle.lengths.specs.declared.charge_delay.ChargeDelay.{ChargeDelay}
 use Rattle.lengths.specs.Charge.{charge}
