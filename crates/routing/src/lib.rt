@@ -15,6 +15,7 @@ pub trait Length: Copy {
     fn zero() -> Self
         ensures { result ≡ kind.none };
 
+    // A method and not `+`, which would need two laws in place of this clause: that any two may be added, and what they give.
     fn add(self, other: Self) -> Self
         ensures { result ≡ kind.add self other };
 

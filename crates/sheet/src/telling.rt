@@ -69,6 +69,7 @@ pub(crate) fn tell_records<L: TapeLength + Printed>(
     ensures { OnOk result (TellsAll (form_of L.kind L.WIDTH L.meant L.printed) n (told_from (form_of L.kind L.WIDTH L.meant L.printed) (length tape.now) tape.now 4 (state_of book.old lengths.old) []) (string_bytes out.old) (string_bytes out.new)) }
 {
     let mut at = HEAD_BYTES;
+    // An iterator over the records would hold this offset, and each fault would ask it back.
     while at < tape.len() {
         match take_record(book, lengths, tape, at) {
             Err(fault) => return print_fault_at(out, fault, at),

@@ -67,10 +67,8 @@ impl Record<'_> {
         ensures { result ≡ of_width L.WIDTH (item_of self.entry) }
     {
         match self {
-            Record::Lay { length, .. } => length.len() == L::WIDTH,
-            Record::Reprice { length, .. } => length.len() == L::WIDTH,
-            Record::Bar { .. } => true,
-            Record::Home { .. } => true,
+            Record::Lay { length, .. } | Record::Reprice { length, .. } => length.len() == L::WIDTH,
+            Record::Bar { .. } | Record::Home { .. } => true,
         }
     }
 }
