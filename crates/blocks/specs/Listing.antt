@@ -6,7 +6,13 @@ use Rattle.routing.specs.Readings.{Reading, told, denied, charge, arrival}
 use Rattle.routing.specs.Readings as readings
 use Rattle.book.specs.declared.outcome.Ending.{Ending}
 use Rattle.book.specs.declared.outcome.Ending.TheVariants.{Settled, Loop}
+use Rattle.book.specs.State.{state_of}
+use Rattle.blocks.specs.declared.listing.Listing.{Listing}
 use Rattle.printing.specs.Lines.{first_line, exchange_lines, trunk_line}
+
+-- the book that is listed, with its lengths
+abbrev pub listed : {L : Type 0} → Listing L → State L
+listed b = state_of b.book.now b.lengths.now
 
 -- what was read; a reading that is denied is listed as missing
 abbrev pub or_none : {A : Type 0} → Reading (Option A) → Option A

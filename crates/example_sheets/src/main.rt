@@ -5,7 +5,6 @@
 mod tests;
 
 use anyhow::anyhow;
-use printing::printed::NoMemory;
 use sheet::sheets::sheet_of;
 use std::fs;
 
@@ -22,10 +21,8 @@ const EXAMPLES: [&str; 6] = [
 fn as_stored(rt: &HostRuntime, name: &str) -> anyhow::Result<bool> {
     let tape = fs::read(rt, format!(in rt.alloc(); "{name}.tape")?)?;
     let stored = fs::read(rt, format!(in rt.alloc(); "{name}.sheet")?)?;
-    match sheet_of(rt.alloc(), &tape) {
-        Ok(text) => Ok(text.as_bytes() == stored.as_slice()),
-        Err(NoMemory) => Err(anyhow!("no memory for the sheet")),
-    }
+    let sheet = sheet_of(rt.alloc(), &tape).map_err(|_| anyhow!("no memory for the sheet"))?;
+    Ok(sheet.as_bytes() == stored.as_slice())
 }
 
 fn run(rt: &HostRuntime) -> anyhow::Result<()> {

@@ -1,4 +1,3 @@
-use printing::printed::NoMemory;
 use sheet::sheets::sheet_of;
 use std::alloc::Global;
 use std::test::Fail;
@@ -8,9 +7,7 @@ use tape::heads::{Head, LengthKind, MOST_BYTES, write_head};
 fn started(heap: Global, n: u16) -> Result<Vec<u8>, Fail> {
     let mut bytes = [0u8; 4];
     let kind = LengthKind::Charge;
-    if write_head(Head { kind, n }, &mut bytes).is_err() {
-        return Err(Fail::new("no head was written"));
-    }
+    write_head(Head { kind, n }, &mut bytes)?;
     Ok(Vec::from_slice(heap, &bytes)?)
 }
 
@@ -20,13 +17,6 @@ fn add(tape: &mut Vec<u8>, bytes: &[u8], count: usize) -> Result<(), Fail> {
         tape.extend_from_slice(bytes)?;
     }
     Ok(())
-}
-
-fn sheet(heap: Global, tape: &[u8]) -> Result<String, Fail> {
-    match sheet_of(heap, tape) {
-        Ok(text) => Ok(text),
-        Err(NoMemory) => Err(Fail::new("no memory")),
-    }
 }
 
 // A flat-rate trunk from 0 to 0.
@@ -42,9 +32,12 @@ fn the_longest_tape(rt: HostRuntime) -> Result<(), Fail> {
     let mut tape = started(rt.alloc(), 1)?;
     add(&mut tape, &HOME, 21_844)?;
     assert_eq!(rt; tape.len(), MOST_BYTES);
-    assert_eq!(rt; sheet(rt.alloc(), &tape)?.len(), 21_844 * BLOCK.len());
+    assert_eq!(rt; sheet_of(rt.alloc(), &tape)?.len(), 21_844 * BLOCK.len());
     tape.push(2)?;
-    assert_eq!(rt; sheet(rt.alloc(), &tape)?.as_str(), "fault 1 23 at 65536\n");
+    assert_eq!(rt;
+        sheet_of(rt.alloc(), &tape)?.as_str(),
+        "fault 1 23 at 65536\n"
+    );
     Ok(())
 }
 
@@ -53,9 +46,9 @@ fn the_most_trunks(rt: HostRuntime) -> Result<(), Fail> {
     let mut tape = started(rt.alloc(), 1)?;
     add(&mut tape, &LAY, 4_096)?;
     add(&mut tape, &HOME, 1)?;
-    assert_eq!(rt; sheet(rt.alloc(), &tape)?.as_str(), BLOCK);
+    assert_eq!(rt; sheet_of(rt.alloc(), &tape)?.as_str(), BLOCK);
     add(&mut tape, &LAY, 1)?;
-    let text = sheet(rt.alloc(), &tape)?;
+    let text = sheet_of(rt.alloc(), &tape)?;
     assert!(rt; text.as_str().ends_with("0 0 -\nfault 3 7 at 36871\n"));
     Ok(())
 }
@@ -64,7 +57,7 @@ fn the_most_trunks(rt: HostRuntime) -> Result<(), Fail> {
 fn the_most_exchanges(rt: HostRuntime) -> Result<(), Fail> {
     let mut tape = started(rt.alloc(), 256)?;
     add(&mut tape, &HOME, 1)?;
-    let text = sheet(rt.alloc(), &tape)?;
+    let text = sheet_of(rt.alloc(), &tape)?;
     assert_eq!(rt; text.as_str().lines().count(), 1 + 256 + 25);
     assert!(rt;
         text.as_str().ends_with(
@@ -72,9 +65,9 @@ fn the_most_exchanges(rt: HostRuntime) -> Result<(), Fail> {
         )
     );
     let none = started(rt.alloc(), 0)?;
-    assert_eq!(rt; sheet(rt.alloc(), &none)?.as_str(), "fault 3 1 at 0\n");
+    assert_eq!(rt; sheet_of(rt.alloc(), &none)?.as_str(), "fault 3 1 at 0\n");
     let many = started(rt.alloc(), 257)?;
-    assert_eq!(rt; sheet(rt.alloc(), &many)?.as_str(), "fault 3 1 at 0\n");
+    assert_eq!(rt; sheet_of(rt.alloc(), &many)?.as_str(), "fault 3 1 at 0\n");
     Ok(())
 }
 
@@ -84,16 +77,16 @@ fn a_tape_cut_at_every_byte(rt: HostRuntime) -> Result<(), Fail> {
     add(&mut tape, &LAY, 1)?;
     for end in 0..4usize {
         let part = tape.get(0..end).unwrap_or(&[]);
-        assert_eq!(rt; sheet(rt.alloc(), part)?.as_str(), "fault 1 18 at 0\n");
+        assert_eq!(rt; sheet_of(rt.alloc(), part)?.as_str(), "fault 1 18 at 0\n");
     }
     assert_eq!(rt;
-        sheet(rt.alloc(), tape.get(0..4usize).unwrap_or(&[]))?.as_str(),
+        sheet_of(rt.alloc(), tape.get(0..4usize).unwrap_or(&[]))?.as_str(),
         ""
     );
     for end in 5..13usize {
         let part = tape.get(0..end).unwrap_or(&[]);
-        assert_eq!(rt; sheet(rt.alloc(), part)?.as_str(), "fault 1 18 at 4\n");
+        assert_eq!(rt; sheet_of(rt.alloc(), part)?.as_str(), "fault 1 18 at 4\n");
     }
-    assert_eq!(rt; sheet(rt.alloc(), &tape)?.as_str(), "");
+    assert_eq!(rt; sheet_of(rt.alloc(), &tape)?.as_str(), "");
     Ok(())
 }

@@ -5,3 +5,4 @@ pub mod DelayLaws
 pub mod Limits
 pub mod Parts
 pub mod Rounding
+pub mod Shown

@@ -1,12 +1,15 @@
-ghost use Rattle.std.specs.Prelude.{◌≡◌, true, ◌↔◌, nat_le};
-ghost use Rattle.lengths.specs.Charge.{charge};
+ghost use Rattle.std.specs.Prelude.{◌≡◌, Some};
+ghost use Rattle.lengths.specs.Charge.{charge, charge_within};
 ghost use Rattle.lengths.specs.Limits.{ChargeWithin};
+ghost use Rattle.lengths.specs.Shown.{charge_shown};
 
+use crate::limited::Limited;
 use crate::limits::{MOST_MILLS, rounded_up};
 use routing::Length;
+use std::fmt;
 
 // A whole number of mills, which may be below zero. Sums wrap at 64 bits.
-#[derive(Clone, Copy, PartialEq, Eq, Debug)]
+#[derive(Clone, Copy, PartialEq, Eq, PartialOrd, Ord, Debug)]
 pub struct Charge {
     mills: i64,
 }
@@ -25,26 +28,14 @@ impl Charge {
     {
         self.mills
     }
-
-    // Whether the charge may be laid: its extent is then at most 1.
-    pub fn may_be_laid(self) -> bool
-        ensures within { result ≡ true ↔ ChargeWithin (charge.value self) }
-        ensures small { result ≡ nat_le (charge.extent (charge.value self)) 1 }
-    {
-        self.extent() <= 1
-    }
 }
 
 impl Length for Charge {
     ghost kind = { charge };
 
-    ghost octets = { 4 };
+    ghost WIDTH = { 4 };
 
     const WIDTH: usize = 4;
-
-    fn tape_width() -> usize {
-        Self::WIDTH
-    }
 
     fn zero() -> Charge {
         Charge { mills: 0 }
@@ -57,11 +48,25 @@ impl Length for Charge {
     }
 
     fn not_above(self, other: Charge) -> bool {
-        self.mills <= other.mills
+        self <= other
     }
 
     fn extent(self) -> u64 {
         rounded_up(self.mills.unsigned_abs(), MOST_MILLS)
+    }
+}
+
+impl Limited for Charge {
+    ghost Within = { λ c. ChargeWithin (charge.value c) };
+
+    ghost covered = { λ c. charge_within (charge.value c) };
+}
+
+impl fmt::Display for Charge {
+    ghost output = { λ c. Some (charge_shown c) };
+
+    fn fmt<W: fmt::Write>(&self, f: &mut fmt::Formatter<W>) -> fmt::Result {
+        write!(f, "{}", self.mills)
     }
 }
 

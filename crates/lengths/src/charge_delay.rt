@@ -1,12 +1,15 @@
-ghost use Rattle.std.specs.Prelude.{◌≡◌, true, ◌↔◌, nat_le};
-ghost use Rattle.lengths.specs.ChargeDelay.{charge_delay};
+ghost use Rattle.std.specs.Prelude.{◌≡◌, Some};
+ghost use Rattle.lengths.specs.ChargeDelay.{charge_delay, charge_delay_within};
 ghost use Rattle.lengths.specs.Limits.{ChargeWithin, DelayWithin};
+ghost use Rattle.lengths.specs.Shown.{charge_delay_shown};
 
+use crate::limited::Limited;
 use crate::limits::{MOST_DELAY, MOST_MILLS, rounded_up};
 use routing::Length;
+use std::fmt;
 
 // A charge in mills, which may be below zero, and then a delay in milliseconds. Sums wrap at 64 bits.
-#[derive(Clone, Copy, PartialEq, Eq, Debug)]
+#[derive(Clone, Copy, PartialEq, Eq, PartialOrd, Ord, Debug)]
 pub struct ChargeDelay {
     mills: i64,
     delay: u64,
@@ -33,26 +36,14 @@ impl ChargeDelay {
     {
         self.delay
     }
-
-    // Whether the two may be laid together: their extent is then at most 1.
-    pub fn may_be_laid(self) -> bool
-        ensures within { result ≡ true ↔ (ChargeWithin (charge_delay.value self).0 × DelayWithin (charge_delay.value self).1) }
-        ensures small { result ≡ nat_le (charge_delay.extent (charge_delay.value self)) 1 }
-    {
-        self.extent() <= 1
-    }
 }
 
 impl Length for ChargeDelay {
     ghost kind = { charge_delay };
 
-    ghost octets = { 6 };
+    ghost WIDTH = { 6 };
 
     const WIDTH: usize = 6;
-
-    fn tape_width() -> usize {
-        Self::WIDTH
-    }
 
     fn zero() -> ChargeDelay {
         ChargeDelay { mills: 0, delay: 0 }
@@ -66,12 +57,26 @@ impl Length for ChargeDelay {
     }
 
     fn not_above(self, other: ChargeDelay) -> bool {
-        (self.mills, self.delay) <= (other.mills, other.delay)
+        self <= other
     }
 
     fn extent(self) -> u64 {
         let charge = rounded_up(self.mills.unsigned_abs(), MOST_MILLS);
         charge.max(rounded_up(self.delay, MOST_DELAY))
+    }
+}
+
+impl Limited for ChargeDelay {
+    ghost Within = { λ c. ChargeWithin (charge_delay.value c).0 × DelayWithin (charge_delay.value c).1 };
+
+    ghost covered = { λ c. charge_delay_within (charge_delay.value c) };
+}
+
+impl fmt::Display for ChargeDelay {
+    ghost output = { λ c. Some (charge_delay_shown c) };
+
+    fn fmt<W: fmt::Write>(&self, f: &mut fmt::Formatter<W>) -> fmt::Result {
+        write!(f, "{}/{}", self.mills, self.delay)
     }
 }
 

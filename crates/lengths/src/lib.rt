@@ -3,4 +3,5 @@
 
 pub mod charge;
 pub mod charge_delay;
+pub mod limited;
 pub mod limits;

@@ -1,22 +1,14 @@
 -- The lines of a sheet, in bytes.
-use Rattle.std.specs.Prelude.{ℕ, zero, suc, ◌%◌, cond, List, [], ◌∷◌, ◌++◌, Some, None, codes, decimal, Option, ◌==◌}
-use Rattle.std.specs.Fmt.{signed_decimal}
-use Rattle.lengths.specs.declared.charge.Charge.{Charge}
-use Rattle.lengths.specs.declared.charge_delay.ChargeDelay.{ChargeDelay}
-use Rattle.lengths.specs.Charge.{charge}
-use Rattle.lengths.specs.ChargeDelay.{charge_delay}
+use Rattle.std.specs.Prelude.{◌≡◌, ℕ, zero, suc, ◌%◌, cond, List, [], ◌∷◌, ◌++◌, Some, None, codes, decimal, string_bytes, Option, String, ◌==◌}
+use Rattle.std.specs.declared.alloc.Global.{Global}
+
+-- a text has these bytes behind what it was
+abbrev pub Adds : List ℕ → String Global → String Global → Type 0
+Adds bytes old new = string_bytes new ≡ string_bytes old ++ bytes
 
 -- the end of a line
 abbrev pub newline : List ℕ
 newline = 10 ∷ []
-
--- a charge is shown as its mills
-abbrev pub charge_shown : Charge → List ℕ
-charge_shown c = signed_decimal (charge.value c)
-
--- a charge with delay as both, with a stroke between them
-abbrev pub charge_delay_shown : ChargeDelay → List ℕ
-charge_delay_shown c = signed_decimal (charge_delay.value c).0 ++ (codes "/" ++ decimal (charge_delay.value c).1)
 
 -- the first line of a run: `word` says how it ended
 abbrev pub first_line : ℕ → List ℕ → ℕ → ℕ → List ℕ

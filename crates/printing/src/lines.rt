@@ -1,7 +1,8 @@
-ghost use Rattle.std.specs.Prelude.{◌≡◌, ◌++◌, string_bytes, decimal, OnOk};
-ghost use Rattle.printing.specs.Lines.{after_tenth, each_spaced, exchange_line, fault_line, first_line, or_dash, spaced, trunk_line};
+ghost use Rattle.std.specs.Prelude.{OnOk};
+ghost use Rattle.printing.specs.Lines.{Adds, after_tenth, each_spaced, exchange_line, fault_line, first_line, spaced, trunk_line};
 
-use super::printed::{NoMemory, Printed};
+use super::printed::{OrDash, Printed};
+use std::alloc::AllocError;
 
 // The first line of a run; `word` says how it ended.
 pub fn print_first(
@@ -10,41 +11,17 @@ pub fn print_first(
     word: &str,
     passes: u64,
     scans: u64,
-) -> Result<(), NoMemory>
-    ensures { OnOk result (string_bytes out.new ≡ string_bytes out.old ++ first_line home word.now passes scans) }
+) -> Result<(), AllocError>
+    ensures { OnOk result (Adds (first_line home word.now passes scans) out.old out.new) }
 {
-    write!(out, "home {home} {word} passes {passes} scans {scans}\n")?;
-    Ok(())
+    writeln!(out, "home {home} {word} passes {passes} scans {scans}")
 }
 
 // The line of a fault: its layer, its number and the offset of its place.
-pub fn print_fault(out: &mut String, layer: u16, number: u16, at: usize) -> Result<(), NoMemory>
-    ensures { OnOk result (string_bytes out.new ≡ string_bytes out.old ++ fault_line layer number at) }
+pub fn print_fault(out: &mut String, layer: u16, number: u16, at: usize) -> Result<(), AllocError>
+    ensures { OnOk result (Adds (fault_line layer number at) out.old out.new) }
 {
-    write!(out, "fault {layer} {number} at {at}\n")?;
-    Ok(())
-}
-
-// A label, or `-` where there is none.
-fn print_label<L: Printed>(out: &mut String, label: Option<L>) -> Result<(), NoMemory>
-    ensures { OnOk result (string_bytes out.new ≡ string_bytes out.old ++ or_dash L.Printed.printed label) }
-{
-    match label {
-        Some(length) => length.print(out)?,
-        None => out.push_str("-")?,
-    }
-    Ok(())
-}
-
-// An arriving trunk, or `-` where there is none.
-fn print_arrival(out: &mut String, arrival: Option<u16>) -> Result<(), NoMemory>
-    ensures { OnOk result (string_bytes out.new ≡ string_bytes out.old ++ or_dash decimal arrival) }
-{
-    match arrival {
-        Some(t) => write!(out, "{t}")?,
-        None => out.push_str("-")?,
-    }
-    Ok(())
+    writeln!(out, "fault {layer} {number} at {at}")
 }
 
 // The line of an exchange.
@@ -53,20 +30,15 @@ pub fn print_exchange<L: Printed>(
     x: u16,
     label: Option<L>,
     arrival: Option<u16>,
-) -> Result<(), NoMemory>
-    ensures { OnOk result (string_bytes out.new ≡ string_bytes out.old ++ exchange_line L.Printed.printed x label arrival) }
+) -> Result<(), AllocError>
+    ensures { OnOk result (Adds (exchange_line L.printed x label arrival) out.old out.new) }
 {
-    write!(out, "{x} ")?;
-    print_label(out, label)?;
-    out.push_str(" ")?;
-    print_arrival(out, arrival)?;
-    out.push_str("\n")?;
-    Ok(())
+    writeln!(out, "{x} {} {}", OrDash(label), OrDash(arrival))
 }
 
 // The blank line that follows every tenth of the exchange lines.
-pub fn print_blank(out: &mut String, x: u16) -> Result<(), NoMemory>
-    ensures { OnOk result (string_bytes out.new ≡ string_bytes out.old ++ after_tenth x) }
+pub fn print_blank(out: &mut String, x: u16) -> Result<(), AllocError>
+    ensures { OnOk result (Adds (after_tenth x) out.old out.new) }
 {
     if x % 10 == 9 {
         out.push_str("\n")?;
@@ -75,8 +47,8 @@ pub fn print_blank(out: &mut String, x: u16) -> Result<(), NoMemory>
 }
 
 // These numbers, each after a space.
-fn print_spaced(out: &mut String, numbers: &[u16]) -> Result<(), NoMemory>
-    ensures { OnOk result (string_bytes out.new ≡ string_bytes out.old ++ each_spaced numbers.now) }
+fn print_spaced(out: &mut String, numbers: &[u16]) -> Result<(), AllocError>
+    ensures { OnOk result (Adds (each_spaced numbers.now) out.old out.new) }
 {
     for t in numbers {
         write!(out, " {t}")?;
@@ -85,22 +57,20 @@ fn print_spaced(out: &mut String, numbers: &[u16]) -> Result<(), NoMemory>
 }
 
 // These numbers, with single spaces between them.
-fn print_numbers(out: &mut String, numbers: &[u16]) -> Result<(), NoMemory>
-    ensures { OnOk result (string_bytes out.new ≡ string_bytes out.old ++ spaced numbers.now) }
+fn print_numbers(out: &mut String, numbers: &[u16]) -> Result<(), AllocError>
+    ensures { OnOk result (Adds (spaced numbers.now) out.old out.new) }
 {
     let [first, rest @ ..] = numbers else {
         return Ok(());
     };
     write!(out, "{first}")?;
-    print_spaced(out, rest)?;
-    Ok(())
+    print_spaced(out, rest)
 }
 
 // The line of a loop: the numbers of its trunks.
-pub fn print_trunks(out: &mut String, trunks: &[u16]) -> Result<(), NoMemory>
-    ensures { OnOk result (string_bytes out.new ≡ string_bytes out.old ++ trunk_line trunks.now) }
+pub fn print_trunks(out: &mut String, trunks: &[u16]) -> Result<(), AllocError>
+    ensures { OnOk result (Adds (trunk_line trunks.now) out.old out.new) }
 {
     print_numbers(out, trunks)?;
-    out.push_str("\n")?;
-    Ok(())
+    out.push_str("\n")
 }

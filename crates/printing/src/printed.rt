@@ -1,52 +1,48 @@
-ghost use Rattle.std.specs.Prelude.{◌≡◌, ℕ, List, ◌++◌, string_bytes, OnOk};
-ghost use Rattle.printing.specs.Lines.{charge_delay_shown, charge_shown};
+ghost use Rattle.std.specs.Prelude.{◌≡◌, ℕ, List, Some, decimal, refl};
+ghost use Rattle.lengths.specs.Shown.{charge_delay_shown, charge_shown};
+ghost use Rattle.printing.specs.Lines.{or_dash};
 
 use lengths::charge::Charge;
 use lengths::charge_delay::ChargeDelay;
-use std::alloc::AllocError;
 use std::fmt;
+use std::fmt::Display;
 
-// There is no memory for the text.
-#[derive(Clone, Copy, Debug)]
-pub struct NoMemory;
-
-impl From<AllocError> for NoMemory {
-    fn from(error: AllocError) -> NoMemory {
-        NoMemory
-    }
-}
-
-impl From<fmt::Error> for NoMemory {
-    fn from(error: fmt::Error) -> NoMemory {
-        NoMemory
-    }
-}
-
-// A kind of length as a sheet shows it.
-pub trait Printed: Copy {
+// What a sheet shows: the text of each value is known.
+pub trait Printed: Copy + Display {
     ghost printed: { Self → List ℕ };
 
-    fn print(self, out: &mut String) -> Result<(), NoMemory>
-        ensures { OnOk result (string_bytes out.new ≡ string_bytes out.old ++ printed self) };
+    ghost shows: { (x : Self) → Self.output x ≡ Some (printed x) };
 }
 
 impl Printed for Charge {
     ghost printed = { charge_shown };
 
-    fn print(self, out: &mut String) -> Result<(), NoMemory> {
-        let mills = self.mills();
-        write!(out, "{mills}")?;
-        Ok(())
-    }
+    ghost shows = { λ c. refl };
 }
 
 impl Printed for ChargeDelay {
     ghost printed = { charge_delay_shown };
 
-    fn print(self, out: &mut String) -> Result<(), NoMemory> {
-        let mills = self.mills();
-        let delay = self.delay();
-        write!(out, "{mills}/{delay}")?;
-        Ok(())
+    ghost shows = { λ c. refl };
+}
+
+impl Printed for u16 {
+    ghost printed = { decimal };
+
+    ghost shows = { λ n. refl };
+}
+
+// A value, or `-` where there is none.
+#[derive(Clone, Copy)]
+pub(crate) struct OrDash<T>(pub(crate) Option<T>);
+
+impl<T: Printed> Display for OrDash<T> {
+    ghost output = { λ x. Some (or_dash T.printed x.0) };
+
+    fn fmt<W: fmt::Write>(&self, f: &mut fmt::Formatter<W>) -> fmt::Result {
+        match self.0 {
+            Some(value) => write!(f, "{value}"),
+            None => write!(f, "-"),
+        }
     }
 }

@@ -2,7 +2,6 @@
 #![tactic(auto)]
 
 use anyhow::anyhow;
-use printing::printed::NoMemory;
 use sheet::sheets::sheet_of;
 use std::io::{Read, Write};
 use tape::heads::MOST_BYTES;
@@ -13,10 +12,8 @@ fn run(rt: &HostRuntime) -> anyhow::Result<()> {
     rt.stdin()
         .take(MOST_BYTES as u64 + 1)
         .read_to_end(&mut tape)?;
-    match sheet_of(rt.alloc(), &tape) {
-        Ok(text) => rt.stdout().write_all(text.as_bytes())?,
-        Err(NoMemory) => return Err(anyhow!("no memory for the sheet")),
-    }
+    let sheet = sheet_of(rt.alloc(), &tape).map_err(|_| anyhow!("no memory for the sheet"))?;
+    rt.stdout().write_all(sheet.as_bytes())?;
     Ok(())
 }
 

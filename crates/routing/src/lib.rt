@@ -8,16 +8,14 @@ pub trait Length: Copy {
     ghost kind: { Kind Self };
 
     // How many bytes a length has on a tape.
-    ghost octets: { ℕ };
+    ghost WIDTH: { ℕ };
 
     const WIDTH: usize;
-
-    fn tape_width() -> usize
-        ensures { result ≡ octets };
 
     fn zero() -> Self
         ensures { result ≡ kind.none };
 
+    // A method and not `+`, which would need two laws in place of this clause: that any two may be added, and what they give.
     fn add(self, other: Self) -> Self
         ensures { result ≡ kind.add self other };
 

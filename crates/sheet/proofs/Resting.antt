@@ -1,10 +1,12 @@
 -- Between two records: what was told so far, and what is left.
-use Rattle.std.proofs.Common.{◌≡◌, ℕ, zero, suc, ◌+◌, ◌<◌, ◌≤◌, leb, List, [], ◌∷◌, ◌++◌, length, Some, None, Ok, Err, Result, sym, refl, ap, ◌∙◌, subst, append_assoc, append-nil, arith}
+use Rattle.std.proofs.Common.{◌≡◌, ℕ, zero, suc, ◌+◌, ◌<◌, ◌≤◌, leb, List, [], ◌∷◌, ◌++◌, length, Some, None, Ok, Err, Option, Result, sym, refl, ap, ◌∙◌, subst, append_assoc, append-nil, arith}
 use Rattle.std.proofs.lemmas.Bool.{cond-true, cond-false, le-leb, lt-leb}
 use Rattle.routing.specs.History.{History, State, tariff_of, after}
 use Rattle.routing.specs.Calls.{refusal}
 use Rattle.routing.specs.Promise.{Right}
 use Rattle.routing.proofs.Histories.{same_book}
+use Rattle.book.specs.declared.outcome.Ending.{Ending}
+use Rattle.book.specs.declared.refusal.Refusal.{Refusal}
 use Rattle.tape.specs.declared.faults.RecordFault.{RecordFault}
 use Rattle.tape.specs.declared.faults.RecordFault.TheVariants.{Book}
 use Rattle.tape.specs.Faults.{layer_of, number_of}
@@ -13,10 +15,9 @@ use Rattle.blocks.specs.Blocks.{Block, BlockRight, block_lines}
 use Rattle.blocks.specs.Homes.{block_of, run_from}
 use Rattle.blocks.proofs.Blocked.{home_lines, home_right}
 use Rattle.printing.specs.Lines.{fault_line}
-use Rattle.sheet.specs.declared.applying.Effect.{Effect}
-use Rattle.sheet.specs.declared.applying.Effect.TheVariants.{Changed, Ran}
+use Rattle.blocks.specs.declared.listing.Ran.{Ran}
 use Rattle.sheet.specs.Applying.{Applied, MadeBy}
-use Rattle.sheet.specs.Taking.{Taken, effect_read}
+use Rattle.sheet.specs.Taking.{Taken, run_read}
 use Rattle.sheet.specs.Told.{Form, Told, silence, faulty, after_blocks, on_record, on_refusal, call_of, noted, taken, blocks_of, told_from, blocks_lines, text_of, AllRight, TellsAll}
 
 module _ {L : Type 0} (F : Form L) where
@@ -62,8 +63,8 @@ module _ {L : Type 0} (F : Form L) where
     over_from zero at s h e = refl
     over_from (suc k) at s h e = cond-true (leb (length tape) at) silence _ (le-leb (length tape) at e)
 
-    pub tells_over : (s : State L) (out : List ℕ) (at : ℕ) → Rest s out at → length tape ≤ at → TellsAll F n whole before out
-    tells_over s out at r e =
+    pub tells_over : {s : State L} {out : List ℕ} {at : ℕ} → Rest s out at → length tape ≤ at → TellsAll F n whole before out
+    tells_over {s} {at = at} r e =
         let is : whole ≡ after_blocks r.blocks silence = r.is ∙ ap (after_blocks r.blocks) (over_from r.fuel at s r.changes e) in
         let same : whole ≡ record { blocks = r.blocks; fault = None } = is ∙ ap (λ bs. record { blocks = bs; fault = None }) (append-nil r.blocks) in
         record {
@@ -89,49 +90,53 @@ module _ {L : Type 0} (F : Form L) where
           right = subst (λ t. AllRight F n t.blocks) (sym same) r.right;
         }
 
+    -- the run from x that ended so
+    abbrev ran : ℕ → Ending → Ran
+    ran x e = record { home = x; ending = e }
+
     no_result : {A B : Type 0} (a : A) (b : B) → ◌≡◌ {A = Result A B} (Ok a) (Err b) → ⊥
     no_result a b e = let z : ◌≡◌ {A = ℕ} 0 1 = cc in omega arith
 
-    same_fault : {A : Type 0} (f g : RecordFault) → ◌≡◌ {A = Result A RecordFault} (Err f) (Err g) → f ≡ g
+    same_fault : {A B : Type 0} (f g : B) → ◌≡◌ {A = Result A B} (Err f) (Err g) → f ≡ g
     same_fault f g e = cc
 
     -- what a record that the book refused comes to
-    refused_from : (at : ℕ) (s : State L) (h : History L) (item : Item) (f : RecordFault) (s' : State L) (rest : Told L) → Applied F number n first h s item (Err f) s' → on_refusal (refusal F.kind s (call_of F item)) at rest ≡ faulty (layer_of f) (number_of f) at
-    refused_from at s h item f s' rest (Applied.refuses {k = k} why is same) =
-        ap (λ o. on_refusal o at rest) why ∙ ap (λ (g : RecordFault). faulty (layer_of g) (number_of g) at) (sym (same_fault f (Book k) is))
-    refused_from at s h item f s' rest (Applied.changes none is becomes lists made) = absurd (no_result Changed f (sym is))
-    refused_from at s h item f s' rest (Applied.runs {x = x} {e = e} which none is becomes told made) = absurd (no_result (Ran x e) f (sym is))
+    refused_from : (at : ℕ) (s : State L) (h : History L) (item : Item) (j : Refusal) (s' : State L) (rest : Told L) → Applied F number n first h s item (Err j) s' → on_refusal (refusal F.kind s (call_of F item)) at rest ≡ faulty (layer_of (Book j)) (number_of (Book j)) at
+    refused_from at s h item j s' rest (Applied.refuses {k = k} why is same) =
+        ap (λ o. on_refusal o at rest) why ∙ ap (λ (i : Refusal). faulty (layer_of (Book i)) (number_of (Book i)) at) (sym (same_fault j k is))
+    refused_from at s h item j s' rest (Applied.changes none is becomes lists made) = absurd (no_result None j (sym is))
+    refused_from at s h item j s' rest (Applied.runs {x = x} {e = e} which none is becomes told made) = absurd (no_result (Some (ran x e)) j (sym is))
 
     -- what a fault at a record comes to
     fault_from : (fuel at : ℕ) (s : State L) (h : History L) (s' : State L) (f : RecordFault) → at < length tape → length tape ≤ at + fuel → Taken F number n first h tape at s (Err f) s' → told_from F fuel tape at s h ≡ faulty (layer_of f) (number_of f) at
     fault_from zero at s h s' f low enough t = absurd (omega arith)
     fault_from (suc k) at s h s' f low enough (Taken.unread {f = g} unread is same) =
         next_from k at s h low ∙ ap (λ x. on_record x at (going k at s h)) unread ∙ ap (λ (y : RecordFault). faulty (layer_of y) (number_of y) at) (sym (same_fault f g is))
-    fault_from (suc k) at s h s' f low enough (Taken.turned_away {p = p} {f = g} found applied is) =
-        next_from k at s h low ∙ ap (λ x. on_record x at (going k at s h)) found ∙ refused_from at s h p.item g s' _ applied ∙ ap (λ (y : RecordFault). faulty (layer_of y) (number_of y) at) (sym (same_fault f g is))
+    fault_from (suc k) at s h s' f low enough (Taken.turned_away {p = p} {k = j} found applied is) =
+        next_from k at s h low ∙ ap (λ x. on_record x at (going k at s h)) found ∙ refused_from at s h p.item j s' _ applied ∙ ap (λ (y : RecordFault). faulty (layer_of y) (number_of y) at) (sym (same_fault f (Book j) is))
     fault_from (suc k) at s h s' f low enough (Taken.applies {p = p} {e = e} found applied is past within) = absurd (no_result (e, p.end) f (sym is))
 
-    pub tells_fault_at : (s s' : State L) (out out' : List ℕ) (at : ℕ) (r : Rest s out at) (f : RecordFault) → at < length tape → Taken F number n first r.changes tape at s (Err f) s' → out' ≡ out ++ fault_line (layer_of f) (number_of f) at → TellsAll F n whole before out'
-    tells_fault_at s s' out out' at r f low t printed = tells_fault s out out' at r (layer_of f) (number_of f) (fault_from r.fuel at s r.changes s' f low r.enough t) printed
+    pub tells_fault_at : {s s' : State L} {out out' : List ℕ} {at : ℕ} (r : Rest s out at) (f : RecordFault) → at < length tape → Taken F number n first r.changes tape at s (Err f) s' → out' ≡ out ++ fault_line (layer_of f) (number_of f) at → TellsAll F n whole before out'
+    tells_fault_at {s} {s'} {out} {out'} {at} r f low t printed = tells_fault s out out' at r (layer_of f) (number_of f) (fault_from r.fuel at s r.changes s' f low r.enough t) printed
 
     -- an accepted record: the book is as the rules say, and its lines are those of its blocks, which are right
-    record Took (h : History L) (s : State L) (item : Item) (e : Effect) (s' : State L) : Type 0 where
+    record Took (h : History L) (s : State L) (item : Item) (e : Option Ran) (s' : State L) : Type 0 where
       pub none : refusal F.kind s (call_of F item) ≡ None
       pub becomes : s' ≡ taken F item s
       pub made : MadeBy F number n first (noted F item h) s'
-      pub lines : effect_read F.kind F.printed s' n e ≡ blocks_lines F n (blocks_of F item s h)
+      pub lines : run_read F.kind F.printed s' n e ≡ blocks_lines F n (blocks_of F item s h)
       pub right : AllRight F n (blocks_of F item s h)
 
-    same_effect : (d e : Effect) → ◌≡◌ {A = Result Effect RecordFault} (Ok d) (Ok e) → d ≡ e
-    same_effect d e p = cc
+    same_run : (d e : Option Ran) → ◌≡◌ {A = Result (Option Ran) Refusal} (Ok d) (Ok e) → d ≡ e
+    same_run d e p = cc
 
-    took : (h : History L) (s : State L) → MadeBy F number n first h s → (item : Item) (e : Effect) (s' : State L) → Applied F number n first h s item (Ok e) s' → Took h s item e s'
-    took h s by item e s' (Applied.refuses {k = k} why is same) = absurd (no_result e (Book k) is)
+    took : (h : History L) (s : State L) → MadeBy F number n first h s → (item : Item) (e : Option Ran) (s' : State L) → Applied F number n first h s item (Ok e) s' → Took h s item e s'
+    took h s by item e s' (Applied.refuses {k = k} why is same) = absurd (no_result e k is)
     took h s by item e s' (Applied.changes none is becomes lists made) = record {
       none = none;
       becomes = becomes;
       made = made;
-      lines = ap (effect_read F.kind F.printed s' n) (same_effect e Changed is) ∙ ap (blocks_lines F n) (sym lists);
+      lines = ap (run_read F.kind F.printed s' n) (same_run e None is) ∙ ap (blocks_lines F n) (sym lists);
       right = subst (AllRight F n) (sym lists) tt;
     }
     took h s by item e s' (Applied.runs {x = x} {e = y} which none is becomes told made) =
@@ -139,7 +144,7 @@ module _ {L : Type 0} (F : Form L) where
           none = none;
           becomes = becomes;
           made = made;
-          lines = ap (effect_read F.kind F.printed s' n) (same_effect e (Ran x y) is) ∙ home_lines F.kind F.printed number n first h s s' x made becomes y told ∙ ap (λ (m : ℕ). block_lines F.printed n (block m)) (sym size) ∙ sym (append-nil (block_lines F.printed n (block s.size)));
+          lines = ap (run_read F.kind F.printed s' n) (same_run e (Some (ran x y)) is) ∙ home_lines F.kind F.printed number n first h s s' x made becomes y told ∙ ap (λ (m : ℕ). block_lines F.printed n (block m)) (sym size) ∙ sym (append-nil (block_lines F.printed n (block s.size)));
           right = (subst (λ (m : ℕ). BlockRight F.kind n (block m)) (sym size) (home_right F.kind F.printed number n first h s s' x made becomes), tt);
         })
       where
@@ -157,19 +162,19 @@ module _ {L : Type 0} (F : Form L) where
         let rest = after_blocks (blocks_of F p.item s h) (told_from F k tape p.end (taken F p.item s) (noted F p.item h)) in
         (k, omega arith, next_from k at s h low ∙ ap (λ x. on_record x at (going k at s h)) found ∙ ap (λ o. on_refusal o at rest) none)
 
-    same_pair : (d e : Effect) (i j : ℕ) → ◌≡◌ {A = Result (Effect × ℕ) RecordFault} (Ok (d, i)) (Ok (e, j)) → (d ≡ e) × (i ≡ j)
-    same_pair d e i j p = let q : ◌≡◌ {A = Effect × ℕ} (d, i) (e, j) = cc in (ap (λ (x : Effect × ℕ). x.0) q, ap (λ (x : Effect × ℕ). x.1) q)
+    same_pair : (d e : Option Ran) (i j : ℕ) → ◌≡◌ {A = Result (Option Ran × ℕ) RecordFault} (Ok (d, i)) (Ok (e, j)) → (d ≡ e) × (i ≡ j)
+    same_pair d e i j p = let q : ◌≡◌ {A = Option Ran × ℕ} (d, i) (e, j) = cc in (ap (λ (x : Option Ran × ℕ). x.0) q, ap (λ (x : Option Ran × ℕ). x.1) q)
 
-    pub tells_more : (s s' : State L) (out out' : List ℕ) (at : ℕ) (r : Rest s out at) (e : Effect) (end : ℕ) → at < length tape → Taken F number n first r.changes tape at s (Ok (e, end)) s' → out' ≡ out ++ effect_read F.kind F.printed s' n e
+    pub tells_more : {s s' : State L} {out out' : List ℕ} {at : ℕ} (r : Rest s out at) (e : Option Ran) (end : ℕ) → at < length tape → Taken F number n first r.changes tape at s (Ok (e, end)) s' → out' ≡ out ++ run_read F.kind F.printed s' n e
         → Rest s' out' end × (at < end)
-    tells_more s s' out out' at r e end low (Taken.unread {f = f} unread is same) printed = absurd (no_result (e, end) f is)
-    tells_more s s' out out' at r e end low (Taken.turned_away {p = p} {f = f} found applied is) printed = absurd (no_result (e, end) f is)
-    tells_more s s' out out' at r e end low (Taken.applies {p = p} {e = d} found applied is past within) printed =
+    tells_more {s} {s'} {out} {out'} {at} r e end low (Taken.unread {f = f} unread is same) printed = absurd (no_result (e, end) f is)
+    tells_more {s} {s'} {out} {out'} {at} r e end low (Taken.turned_away {p = p} {k = j} found applied is) printed = absurd (no_result (e, end) (Book j) is)
+    tells_more {s} {s'} {out} {out'} {at} r e end low (Taken.applies {p = p} {e = d} found applied is past within) printed =
         let same = same_pair e d end p.end is in
         let t : Took r.changes s p.item d s' = took r.changes s r.made p.item d s' applied in
         let bs = blocks_of F p.item s r.changes in
         let g = go_from r.fuel at s r.changes low p found t.none r.enough past in
-        let lines : effect_read F.kind F.printed s' n e ≡ blocks_lines F n bs = ap (effect_read F.kind F.printed s' n) same.0 ∙ t.lines in (
+        let lines : run_read F.kind F.printed s' n e ≡ blocks_lines F n bs = ap (run_read F.kind F.printed s' n) same.0 ∙ t.lines in (
           subst (λ (j : ℕ). Rest s' out' j) (sym same.1) (record {
             changes = noted F p.item r.changes;
             made = t.made;

@@ -16,10 +16,8 @@ use Rattle.book.specs.declared.refusal.Refusal.{Refusal}
 use Rattle.book.specs.Answers.{answer_by}
 use Rattle.book.specs.Refusal.{number_of}
 use Rattle.replay.proofs.Makings.{never_done, never_numbered}
-use Rattle.tape.specs.declared.faults.RecordFault.{RecordFault}
 use Rattle.tape.specs.Format.{Item, lay, reprice, bar, home}
 use Rattle.blocks.specs.Homes.{Topologically, RunsHome, HomesRight}
-use Rattle.sheet.specs.declared.applying.Effect.{Effect}
 use Rattle.sheet.specs.Applying.{Applied, MadeBy, changed_of, ran_of}
 use Rattle.sheet.specs.Told.{Form, blocks_of, call_of, noted, taken}
 
@@ -77,7 +75,7 @@ module _ {L : Type 0} (F : Form L) (number n : ℕ) (first : List L) where
     changed_so R f never shut only is (Err j) s' (Does.accepts x none by becomes answer) = absurd (shut (number_of j) s' _ answer)
 
   -- the four changes
-  module _ (R : List Trunk → Run L → List ℕ → Type 0) (h : History L) (s : State L) (to : MadeBy F number n first h s) (s' : State L) where
+  module _ {R : List Trunk → Run L → List ℕ → Type 0} {h : History L} {s : State L} (to : MadeBy F number n first h s) {s' : State L} where
     pub lay_so : (a b : ℕ) (l : List ℕ) (r : Result ℕ Refusal) → Does K R s (calls.lay a b (F.meant l)) (answer_by (λ t. numbered t) r) s' → Applied F number n first h s (lay a b l) (changed_of r) s'
     lay_so a b l r d =
         changed_so h s to (lay a b l) (calls.lay a b (F.meant l)) (laid a b (F.meant l)) refl refl refl refl R (λ t. numbered t) (λ t k e. never_numbered t k e) (λ k q m e. never_numbered m k (sym e)) (λ S q x is. is) (λ S q. refl) r s' d
@@ -98,8 +96,8 @@ module _ {L : Type 0} (F : Form L) (number n : ℕ) (first : List L) where
     unbar_so t r d = done_so (bar t 1) (calls.unbar t) (unbarred t) refl refl refl refl (λ k q m e. never_done k (sym e)) (λ S q x is. is) (λ S q. refl) r d
 
   -- a home
-  pub home_so : (h : History L) (s : State L) → MadeBy F number n first h s → (x : ℕ) (r : Result Ending Refusal) (s' : State L) → HomesRight K s x r s' → Applied F number n first h s (home x) (ran_of x r) s'
-  home_so h s to x r s' homes =
+  pub home_so : {h : History L} {s : State L} → MadeBy F number n first h s → (x : ℕ) (r : Result Ending Refusal) {s' : State L} → HomesRight K s x r s' → Applied F number n first h s (home x) (ran_of x r) s'
+  home_so {h} {s} to x r {s'} homes =
       let p = homes number n first to.history to.accepted to.made in
       go p.0 (record {
         history = p.1.history;
@@ -113,8 +111,3 @@ module _ {L : Type 0} (F : Form L) (number n : ℕ) (first : List L) where
       go : RunsHome K s x r s' → MadeBy F number n first h s' → Applied F number n first h s (home x) (ran_of x r) s'
       go (RunsHome.refuses why is same) on = Applied.refuses why (ap (ran_of x) is) same
       go (RunsHome.stands none is stood told) on = Applied.runs refl none (ap (ran_of x) is) stood told on
-
-  -- said of the record and of the answer by other names
-  pub said_as : (h : History L) (s s' : State L) (item item' : Item) (r r' : Result Effect RecordFault) → item ≡ item' → r ≡ r' → Applied F number n first h s item' r' s' → Applied F number n first h s item r s'
-  said_as h s s' item item' r r' e f a =
-      subst (λ (i : Item). Applied F number n first h s i r s') (sym e) (subst (λ (y : Result Effect RecordFault). Applied F number n first h s item' y s') (sym f) a)

@@ -1,17 +1,17 @@
 -- The sheet of a tape, for every tape whatever.
-use Rattle.std.specs.Prelude.{◌≡◌, ℕ, Bool, cond, List, ◌++◌, Ok, Err, Result, ◌==◌}
+use Rattle.std.specs.Prelude.{◌≡◌, ℕ, cond, List, ◌++◌, Ok, Err, Result, ◌==◌}
 use Rattle.lengths.specs.declared.charge.Charge.{Charge}
 use Rattle.lengths.specs.declared.charge_delay.ChargeDelay.{ChargeDelay}
 use Rattle.lengths.specs.Charge.{charge}
 use Rattle.lengths.specs.ChargeDelay.{charge_delay}
 use Rattle.tape.specs.declared.faults.TapeFault.TheVariants.{CutShort, NoRoom, TooLong}
 use Rattle.tape.specs.declared.faults.RecordFault.{RecordFault}
-use Rattle.tape.specs.declared.faults.RecordFault.TheVariants.{Tape, UnknownKind, IllegalMap, BadState, Book}
+use Rattle.tape.specs.declared.faults.RecordFault.TheVariants.{Tape, Content, Book}
 use Rattle.tape.specs.Faults.{layer_of, number_of}
 use Rattle.tape.specs.Format.{Start, head_of, most_bytes}
 use Rattle.tape.specs.OnTape.{charge_in, charge_delay_in}
-use Rattle.printing.specs.Lines.{charge_shown, charge_delay_shown, fault_line}
-use Rattle.book.specs.declared.refusal.Refusal.TheVariants.{BadSize, ShortList}
+use Rattle.lengths.specs.Shown.{charge_shown, charge_delay_shown}
+use Rattle.printing.specs.Lines.{fault_line}
 use Rattle.sheet.specs.Told.{Form, told, text_of, AllRight}
 
 -- the kinds of a tape: 1, charge, and 2, charge with delay
@@ -26,14 +26,8 @@ abbrev pub head_offset : RecordFault → ℕ
 head_offset (Tape CutShort) = 0
 head_offset (Tape NoRoom) = 0
 head_offset (Tape TooLong) = most_bytes
-head_offset UnknownKind = 0
-head_offset IllegalMap = 0
-head_offset BadState = 0
+head_offset (Content f) = 0
 head_offset (Book k) = 0
-
--- why no book can be made: n, or a length list that is too short
-abbrev pub fit_fault : Bool → Bool → Result (Unit {0}) RecordFault
-fit_fault bad short = cond bad (Err (Book BadSize)) (cond short (Err (Book ShortList)) (Ok tt))
 
 -- the text of the records of a tape, by the number of the kind of their lengths
 abbrev pub kind_text : ℕ → ℕ → List ℕ → List ℕ

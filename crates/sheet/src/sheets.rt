@@ -1,43 +1,27 @@
-ghost use Rattle.std.specs.Prelude.{◌≡◌, ◌+◌, ◌||◌, length, replicate, IfOk, string_bytes, OnOk, ◌==◌, nat_lt};
+ghost use Rattle.std.specs.Prelude.{◌≡◌, ◌+◌, replicate, IfOk, string_bytes, OnOk};
 ghost use Rattle.tape.specs.Reading.{kind_number};
-ghost use Rattle.sheet.specs.Sheet.{SheetRight, TellsKind, fit_fault, head_offset, sheet_of};
+ghost use Rattle.sheet.specs.Sheet.{SheetRight, TellsKind, head_offset, sheet_of};
 ghost use Rattle.sheet.specs.Told.{TellsAll, form_of, told};
 
 use super::telling::{print_fault_at, tell_records};
 use book::making::{MOST_TRUNKS, fit};
-use book::outcome::Fitness;
-use book::refusal::Refusal;
 use book::{Book, Space};
 use lengths::charge::Charge;
 use lengths::charge_delay::ChargeDelay;
-use printing::printed::{NoMemory, Printed};
+use printing::printed::Printed;
 use routing::Length;
-use std::alloc::Global;
+use std::alloc::{AllocError, Global};
 use tape::faults::{RecordFault, TapeFault};
 use tape::heads::{Head, LengthKind, MOST_BYTES, read_head};
 use tape::on_tape::TapeLength;
 
 // A length list with places for the labels of `n` exchanges and the lengths of as many trunks as may be.
-fn places<L: Length>(heap: Global, n: u16) -> Result<Vec<L>, NoMemory>
-    ensures { IfOk result (λ v. v.items ≡ replicate (n + 4096) L.Length.kind.none) }
+fn places<L: Length>(heap: Global, n: u16) -> Result<Vec<L>, AllocError>
+    ensures { IfOk result (λ v. v.items ≡ replicate (n + 4096) L.kind.none) }
 {
-    let count = n as usize + MOST_TRUNKS;
-    let mut lengths = Vec::with_capacity(heap, count)?;
-    for _ in 0..count {
-        lengths.push_reserved(L::zero());
-    }
+    let mut lengths = Vec::new(heap);
+    lengths.resize(n as usize + MOST_TRUNKS, L::zero())?;
     Ok(lengths)
-}
-
-// Whether a book can be made; why not is a fault of the book.
-fn fitting<L: Length>(n: u16, lengths: &[L]) -> Result<(), RecordFault>
-    ensures { result ≡ fit_fault (n == 0 || nat_lt 256 n) (nat_lt (length lengths.now) n) }
-{
-    match fit(n as usize, lengths) {
-        Fitness::BadSize => Err(Refusal::BadSize.into()),
-        Fitness::ShortList => Err(Refusal::ShortList.into()),
-        Fitness::Fit => Ok(()),
-    }
 }
 
 // Tells the records of a tape whose head says `n`, of this kind of length.
@@ -46,18 +30,15 @@ fn tell<L: TapeLength + Printed>(
     tape: &[u8],
     n: u16,
     out: &mut String,
-) -> Result<(), NoMemory>
-    ensures { OnOk result (TellsAll (form_of L.Length.kind L.Length.octets L.TapeLength.meant L.Printed.printed) n (told (form_of L.Length.kind L.Length.octets L.TapeLength.meant L.Printed.printed) n tape.now) (string_bytes out.old) (string_bytes out.new)) }
+) -> Result<(), AllocError>
+    ensures { OnOk result (TellsAll (form_of L.kind L.WIDTH L.meant L.printed) n (told (form_of L.kind L.WIDTH L.meant L.printed) n tape.now) (string_bytes out.old) (string_bytes out.new)) }
 {
     let mut lengths = places::<L>(heap, n)?;
-    if let Err(fault) = fitting(n, &lengths) {
-        print_fault_at(out, fault, 0)?;
-        return Ok(());
+    if let Err(refusal) = fit(n as usize, &lengths) {
+        return print_fault_at(out, refusal.into(), 0);
     }
-    let space = Space::take(heap)?;
-    let mut book = Book::new(space, 0, n as usize);
-    tell_records(&mut book, &mut lengths, tape, n, out)?;
-    Ok(())
+    let mut book = Book::new(Space::take(heap)?, 0, n as usize);
+    tell_records(&mut book, &mut lengths, tape, n, out)
 }
 
 // Where a fault of the head is said to be.
@@ -77,7 +58,7 @@ fn tell_kind(
     kind: LengthKind,
     n: u16,
     out: &mut String,
-) -> Result<(), NoMemory>
+) -> Result<(), AllocError>
     ensures { OnOk result (TellsKind (kind_number kind) n tape.now (string_bytes out.old) (string_bytes out.new)) }
 {
     match kind {
@@ -87,19 +68,14 @@ fn tell_kind(
 }
 
 // The sheet of a tape, whatever its bytes are: the blocks of its homes, and the fault that ends it, if any.
-pub fn sheet_of(heap: Global, tape: &[u8]) -> Result<String, NoMemory>
+pub fn sheet_of(heap: Global, tape: &[u8]) -> Result<String, AllocError>
     ensures bytes { IfOk result (λ text. string_bytes text ≡ sheet_of tape.now) }
     ensures right { OnOk result (SheetRight tape.now) }
 {
     let mut out = String::new(heap);
     match read_head(tape) {
-        Err(fault) => {
-            print_fault_at(&mut out, fault, offset_of(fault))?;
-            Ok(out)
-        }
-        Ok(Head { kind, n }) => {
-            tell_kind(heap, tape, kind, n, &mut out)?;
-            Ok(out)
-        }
+        Err(fault) => print_fault_at(&mut out, fault, offset_of(fault))?,
+        Ok(Head { kind, n }) => tell_kind(heap, tape, kind, n, &mut out)?,
     }
+    Ok(out)
 }

@@ -3,7 +3,8 @@ use Rattle.std.proofs.Common.{◌≡◌, ℕ, ◌+◌, ◌-◌, ◌<◌, ◌≤�
 use Rattle.std.proofs.lemmas.List.{drop_all, get_or-drop, length-drop}
 use Rattle.std.proofs.lemmas.Bool.{cases_lt, cond-true, cond-false, lt-ltb, le-ltb}
 use Rattle.tape.specs.declared.faults.RecordFault.{RecordFault}
-use Rattle.tape.specs.declared.faults.RecordFault.TheVariants.{Tape, IllegalMap, BadState}
+use Rattle.tape.specs.declared.faults.RecordFault.TheVariants.{Tape, Content}
+use Rattle.tape.specs.declared.faults.ContentFault.TheVariants.{IllegalMap, BadState}
 use Rattle.tape.specs.declared.faults.TapeFault.TheVariants.{CutShort}
 use Rattle.tape.specs.declared.records.Switch.{Switch}
 use Rattle.tape.specs.declared.records.Switch.TheVariants.{Bar as to_bar, Unbar as to_unbar}
@@ -30,20 +31,20 @@ found_same i j m n p q = rw (p, q) refl
 
 -- the three tests of a record: n bytes are there, and its map and item are m and i
 abbrev pub judged : ℕ → ℕ → ℕ → ℕ → Item → Result Found RecordFault
-judged w at n m i = cond (not (is_legal m)) (Err IllegalMap) (cond (ltb n (size_of w m)) (Err (Tape CutShort)) (cond (not (legal_state i)) (Err BadState) (Ok (record { item = i; end = at + size_of w m }))))
+judged w at n m i = cond (not (is_legal m)) (Err (Content IllegalMap)) (cond (ltb n (size_of w m)) (Err (Tape CutShort)) (cond (not (legal_state i)) (Err (Content BadState)) (Ok (record { item = i; end = at + size_of w m }))))
 
 pub record_judged : (w at m : ℕ) (bs : List ℕ) → 0 < length bs → get_or bs 0 0 ≡ m → record_in w bs at ≡ judged w at (length bs) m (item_in w bs)
 record_judged w at m [] h e = absurd (omega (arith, h))
 record_judged w at m (b ∷ bs) h e = ap (λ x. judged w at (length (b ∷ bs)) x (item_in w (b ∷ bs))) e
 
 module _ (w at n m : ℕ) (i : Item) where
-  judged_illegal : is_legal m ≡ false → judged w at n m i ≡ Err IllegalMap
+  judged_illegal : is_legal m ≡ false → judged w at n m i ≡ Err (Content IllegalMap)
   judged_illegal p = rw p refl
 
   judged_short : is_legal m ≡ true → ltb n (size_of w m) ≡ true → judged w at n m i ≡ Err (Tape CutShort)
   judged_short p q = rw (p, q) refl
 
-  judged_bad : is_legal m ≡ true → ltb n (size_of w m) ≡ false → legal_state i ≡ false → judged w at n m i ≡ Err BadState
+  judged_bad : is_legal m ≡ true → ltb n (size_of w m) ≡ false → legal_state i ≡ false → judged w at n m i ≡ Err (Content BadState)
   judged_bad p q r = rw (p, q, r) refl
 
   pub judged_good : is_legal m ≡ true → ltb n (size_of w m) ≡ false → legal_state i ≡ true → judged w at n m i ≡ Ok (record { item = i; end = at + size_of w m })
@@ -60,7 +61,7 @@ module _ (w : ℕ) (tape : List ℕ) (at : ℕ) (lt : at < length tape) where
   some : 0 < length (drop at tape)
   some = simp length-drop (omega arith)
 
-  pub at_illegal : is_legal (get_or tape at 0) ≡ false → record_at w tape at ≡ Err IllegalMap
+  pub at_illegal : is_legal (get_or tape at 0) ≡ false → record_at w tape at ≡ Err (Content IllegalMap)
   at_illegal p = record_judged w at _ (drop at tape) some front ∙ judged_illegal w at (length (drop at tape)) (get_or tape at 0) (item_in w (drop at tape)) p
 
   module _ (s : Shape) (map : get_or tape at 0 ≡ map_of s) where
@@ -76,7 +77,7 @@ module _ (w : ℕ) (tape : List ℕ) (at : ℕ) (lt : at < length tape) where
       pub whole : size_of w (map_of s) ≤ length (drop at tape)
       whole = simp length-drop enough
 
-      pub at_bad : legal_state (item_in w (drop at tape)) ≡ false → record_at w tape at ≡ Err BadState
+      pub at_bad : legal_state (item_in w (drop at tape)) ≡ false → record_at w tape at ≡ Err (Content BadState)
       at_bad r =
           record_judged w at _ (drop at tape) some here
           ∙ judged_bad w at (length (drop at tape)) (map_of s) (item_in w (drop at tape)) (shape_legal s) (le-ltb (length (drop at tape)) (size_of w (map_of s)) whole) r
@@ -87,7 +88,7 @@ module _ (w : ℕ) (tape : List ℕ) (at : ℕ) (lt : at < length tape) where
           ∙ judged_good w at (length (drop at tape)) (map_of s) (item_in w (drop at tape)) (shape_legal s) (le-ltb (length (drop at tape)) (size_of w (map_of s)) whole) r
 
 -- where no form is found
-pub no_shape : (w : ℕ) (tape : List ℕ) (at : ℕ) (f : RecordFault) → f ≡ cond (ltb at (length tape)) IllegalMap (Tape CutShort) → (at < length tape → is_legal (get_or tape at 0) ≡ false) → Err f ≡ record_at w tape at
+pub no_shape : (w : ℕ) (tape : List ℕ) (at : ℕ) (f : RecordFault) → f ≡ cond (ltb at (length tape)) (Content IllegalMap) (Tape CutShort) → (at < length tape → is_legal (get_or tape at 0) ≡ false) → Err f ≡ record_at w tape at
 no_shape w tape at f e h =
     ⊎_elim
     (λ lt. ap Err (e ∙ cond-true _ _ _ (lt-ltb at (length tape) lt)) ∙ sym (at_illegal w tape at lt (h lt)))

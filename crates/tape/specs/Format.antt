@@ -2,7 +2,8 @@
 use Rattle.std.specs.Prelude.{ℕ, ◌+◌, ◌*◌, ◌%◌, ◌^◌, Bool, true, cond, not, List, [], ◌∷◌, ◌++◌, length, take, drop, Ok, Err, Result, ◌==◌, bit_and, count_ones, nat_lt, slice_index}
 use Rattle.tape.specs.declared.faults.TapeFault.TheVariants.{CutShort, TooLong}
 use Rattle.tape.specs.declared.faults.RecordFault.{RecordFault}
-use Rattle.tape.specs.declared.faults.RecordFault.TheVariants.{Tape, UnknownKind, IllegalMap, BadState}
+use Rattle.tape.specs.declared.faults.RecordFault.TheVariants.{Tape, Content}
+use Rattle.tape.specs.declared.faults.ContentFault.TheVariants.{UnknownKind, IllegalMap, BadState}
 use Rattle.tape.specs.Fields.{number, bytes_of}
 
 -- what a record asks for; a length is still in its bytes, and a state of 0 bars and of 1 opens
@@ -71,9 +72,9 @@ pub record Found : Type 0 where
 abbrev pub record_in : ℕ → List ℕ → ℕ → Result Found RecordFault
 record_in width [] at = Err (Tape CutShort)
 record_in width (m ∷ bs) at =
-    cond (not (is_legal m)) (Err IllegalMap)
+    cond (not (is_legal m)) (Err (Content IllegalMap))
     (cond (nat_lt (length (m ∷ bs)) (size_of width m)) (Err (Tape CutShort))
-    (cond (not (legal_state (item_in width (m ∷ bs)))) (Err BadState)
+    (cond (not (legal_state (item_in width (m ∷ bs)))) (Err (Content BadState))
     (Ok (record { item = item_in width (m ∷ bs); end = at + size_of width m }))))
 
 -- the record at an offset of a tape
@@ -109,5 +110,5 @@ head_of tape =
     let kind : ℕ = number (take 2 tape) in
     cond (nat_lt most_bytes (length tape)) (Err (Tape TooLong))
     (cond (nat_lt (length tape) 4) (Err (Tape CutShort))
-    (cond (not (cond (kind == 1) true (kind == 2))) (Err UnknownKind)
+    (cond (not (cond (kind == 1) true (kind == 2))) (Err (Content UnknownKind))
     (Ok (record { kind = kind; exchanges = number (take 2 (drop 2 tape)) }))))

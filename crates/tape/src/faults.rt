@@ -1,11 +1,12 @@
-ghost use Rattle.std.specs.Prelude.{◌≡◌};
-ghost use Rattle.tape.specs.Faults.{layer_of, number_of as fault_number};
-ghost use Rattle.tape.specs.declared.faults.RecordFault.TheVariants.{Tape as of_tape, Book as of_book};
+ghost use Rattle.std.specs.Prelude.{◌≡◌, Some, decimal};
+ghost use Rattle.tape.specs.Faults.{layer_number, layer_of, number_of as fault_number};
+ghost use Rattle.tape.specs.declared.faults.RecordFault.TheVariants.{Tape as of_tape, Content as of_content, Book as of_book};
 
 use book::refusal::Refusal;
+use std::fmt;
 
 // What can be wrong with the bytes.
-#[derive(Clone, Copy, Debug)]
+#[derive(Clone, Copy, PartialEq, Eq, Debug)]
 pub enum TapeFault {
     // The tape ends inside its head or inside a record.
     CutShort = 18,
@@ -14,13 +15,19 @@ pub enum TapeFault {
     TooLong = 23,
 }
 
+// What can be wrong with what a head or a record says.
+#[derive(Clone, Copy, PartialEq, Eq, Debug)]
+pub enum ContentFault {
+    UnknownKind = 19,
+    IllegalMap = 20,
+    BadState = 21,
+}
+
 // Why a head or a record is not taken: its bytes, its own contents, or the book's refusal.
 #[derive(Clone, Copy, Debug)]
 pub enum RecordFault {
     Tape(TapeFault),
-    UnknownKind,
-    IllegalMap,
-    BadState,
+    Content(ContentFault),
     Book(Refusal),
 }
 
@@ -32,6 +39,14 @@ impl From<TapeFault> for RecordFault {
     }
 }
 
+impl From<ContentFault> for RecordFault {
+    ghost from_gives = { λ found r. r ≡ of_content found };
+
+    fn from(found: ContentFault) -> RecordFault {
+        RecordFault::Content(found)
+    }
+}
+
 impl From<Refusal> for RecordFault {
     ghost from_gives = { λ found r. r ≡ of_book found };
 
@@ -40,17 +55,30 @@ impl From<Refusal> for RecordFault {
     }
 }
 
+// Which layer finds a fault. It is shown by its number.
+#[derive(Clone, Copy, PartialEq, Eq, Debug)]
+pub enum Layer {
+    Tape = 1,
+    Record = 2,
+    Book = 3,
+}
+
+impl fmt::Display for Layer {
+    ghost output = { λ layer. Some (decimal (layer_number layer)) };
+
+    fn fmt<W: fmt::Write>(&self, f: &mut fmt::Formatter<W>) -> fmt::Result {
+        write!(f, "{}", *self as u16)
+    }
+}
+
 impl RecordFault {
-    // 1 the tape, 2 the record, 3 the book.
-    pub fn layer(self) -> u16
-        ensures { result ≡ layer_of self }
+    pub fn layer(self) -> Layer
+        ensures { layer_number result ≡ layer_of self }
     {
         match self {
-            RecordFault::Tape(_) => 1,
-            RecordFault::UnknownKind => 2,
-            RecordFault::IllegalMap => 2,
-            RecordFault::BadState => 2,
-            RecordFault::Book(_) => 3,
+            RecordFault::Tape(_) => Layer::Tape,
+            RecordFault::Content(_) => Layer::Record,
+            RecordFault::Book(_) => Layer::Book,
         }
     }
 
@@ -60,9 +88,7 @@ impl RecordFault {
     {
         match self {
             RecordFault::Tape(fault) => fault as u16,
-            RecordFault::UnknownKind => 19,
-            RecordFault::IllegalMap => 20,
-            RecordFault::BadState => 21,
+            RecordFault::Content(fault) => fault as u16,
             RecordFault::Book(refusal) => refusal.number(),
         }
     }

@@ -7,8 +7,8 @@ pub fn read_field(bytes: &[u8]) -> u64
     ensures octets { Bytes bytes.now }
 {
     let mut value: u64 = 0;
-    for byte in bytes {
-        value = value.wrapping_mul(256).wrapping_add(*byte as u64);
+    for &byte in bytes {
+        value = value.wrapping_mul(256).wrapping_add(u64::from(byte));
     }
     value
 }
@@ -18,6 +18,7 @@ pub fn write_field(value: u64, into: &mut [u8])
     ensures { into.new ≡ bytes_of (length into.old) value }
 {
     let mut rest = value;
+    // Tried with `into.iter_mut().rev()`: no proof can know what was written through an adapter of `iter_mut`.
     for i in (0..into.len()).rev() {
         into[i] = (rest % 256) as u8;
         rest /= 256;

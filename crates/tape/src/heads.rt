@@ -1,10 +1,11 @@
-ghost use Rattle.std.specs.Prelude.{◌≡◌, ◌<◌, ◌≤◌, length, Ok, MatchResult, OnOk};
+ghost use Rattle.std.specs.Prelude.{◌≡◌, ◌≢◌, ◌<◌, ◌≤◌, length, Ok, MatchResult, OnOk};
+ghost use Rattle.tape.specs.declared.faults.ContentFault.TheVariants.{UnknownKind as unknown_kind};
 ghost use Rattle.tape.specs.declared.faults.TapeFault.TheVariants.{NoRoom as no_room};
 ghost use Rattle.tape.specs.Format.{head_of, most_bytes};
-ghost use Rattle.tape.specs.Reading.{head_read, start_of};
+ghost use Rattle.tape.specs.Reading.{head_read, kind_number, start_of};
 ghost use Rattle.tape.specs.Writing.{head_bytes, over_front};
 
-use super::faults::{RecordFault, TapeFault};
+use super::faults::{ContentFault, RecordFault, TapeFault};
 use super::fields::{read_pair, write_pair};
 
 // The most bytes that a tape may have.
@@ -18,6 +19,20 @@ pub const HEAD_BYTES: usize = 4;
 pub enum LengthKind {
     Charge = 1,
     ChargeDelay = 2,
+}
+
+impl TryFrom<u16> for LengthKind {
+    type Error = ContentFault;
+
+    ghost try_from_gives = { λ number r. MatchResult r (λ kind. number ≡ kind_number kind) (λ f. (f ≡ unknown_kind) × (number ≢ 1) × (number ≢ 2)) };
+
+    fn try_from(number: u16) -> Result<LengthKind, ContentFault> {
+        match number {
+            1 => Ok(LengthKind::Charge),
+            2 => Ok(LengthKind::ChargeDelay),
+            _ => Err(ContentFault::UnknownKind),
+        }
+    }
 }
 
 // The kind of length, and how many exchanges.
@@ -37,11 +52,7 @@ pub fn read_head(tape: &[u8]) -> Result<Head, RecordFault>
     if tape.len() < HEAD_BYTES {
         return Err(TapeFault::CutShort.into());
     }
-    let kind = match read_pair(tape, 0) {
-        1 => LengthKind::Charge,
-        2 => LengthKind::ChargeDelay,
-        _ => return Err(RecordFault::UnknownKind),
-    };
+    let kind = LengthKind::try_from(read_pair(tape, 0))?;
     let n = read_pair(tape, 2);
     Ok(Head { kind, n })
 }

@@ -40,12 +40,8 @@ impl TapeLength for ChargeDelay {
 fn read_mills(bytes: &[u8]) -> i32
     ensures { result ≡ mills_in bytes.now }
 {
-    let mills = (read_field(bytes) % (1 << 32)) as i64;
-    if mills < 1 << 31 {
-        mills as i32
-    } else {
-        (mills - (1 << 32)) as i32
-    }
+    let mills = (read_field(bytes) % (1 << 32)) as u32;
+    mills.cast_signed()
 }
 
 fn read_delay(bytes: &[u8]) -> u16

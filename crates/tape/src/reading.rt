@@ -1,8 +1,9 @@
 ghost use Rattle.std.specs.Prelude.{◌≡◌, ◌+◌, ◌-◌, ◌<◌, ◌≤◌, true, false, length, take, drop, IfOk, if◌then◌else◌, MatchResult, nat_lt, slice_index, slice_range};
-ghost use Rattle.tape.specs.declared.faults.RecordFault.TheVariants.{BadState as bad_state, IllegalMap as illegal_map, Tape as of_tape};
+ghost use Rattle.tape.specs.declared.faults.RecordFault.TheVariants.{Content as of_content, Tape as of_tape};
+ghost use Rattle.tape.specs.declared.faults.ContentFault.TheVariants.{BadState as bad_state, IllegalMap as illegal_map};
 ghost use Rattle.tape.specs.declared.faults.TapeFault.TheVariants.{CutShort as cut_short};
 ghost use Rattle.tape.specs.Format.{is_legal, item_in, legal_state, record_at, record_bytes, size_of};
-ghost use Rattle.tape.specs.Reading.{item_of, map_of, read_as, state_of};
+ghost use Rattle.tape.specs.Reading.{item_of, map_of, read_as};
 
 use super::faults::{RecordFault, TapeFault};
 use super::fields::read_pair;
@@ -12,7 +13,7 @@ use routing::Length;
 
 // Reads the record at `at`: first its map, then that its bytes are there, then its state.
 pub fn read_record<'a, L: Length>(tape: &'a [u8], at: usize) -> Result<Placed<'a>, RecordFault>
-    ensures reads { read_as result ≡ record_at L.Length.octets tape.now at }
+    ensures reads { read_as result ≡ record_at L.WIDTH tape.now at }
     ensures place { IfOk result (λ p. p.at ≡ at) }
     ensures within { IfOk result (λ p. (at < p.end) × (p.end ≤ length tape.now)) }
     ensures same { IfOk result (λ p. record_bytes (item_of p.record) ≡ slice_range tape.now at p.end) }
@@ -30,15 +31,10 @@ pub fn read_record<'a, L: Length>(tape: &'a [u8], at: usize) -> Result<Placed<'a
 
 // The form of the record at `at`, by its map.
 fn shape_at(tape: &[u8], at: usize) -> Result<Shape, RecordFault>
-    ensures { MatchResult result (λ s. (at < length tape.now) × (slice_index tape.now at ≡ map_of s)) (λ f. (f ≡ (if nat_lt at (length tape.now) then illegal_map else of_tape cut_short)) × (at < length tape.now → is_legal (slice_index tape.now at) ≡ false)) }
+    ensures { MatchResult result (λ s. (at < length tape.now) × (slice_index tape.now at ≡ map_of s)) (λ f. (f ≡ (if nat_lt at (length tape.now) then of_content illegal_map else of_tape cut_short)) × (at < length tape.now → is_legal (slice_index tape.now at) ≡ false)) }
 {
-    if at >= tape.len() {
-        return Err(TapeFault::CutShort.into());
-    }
-    match Shape::of(tape[at]) {
-        Some(shape) => Ok(shape),
-        None => Err(RecordFault::IllegalMap),
-    }
+    let map = tape.get(at).ok_or(TapeFault::CutShort)?;
+    Ok(Shape::try_from(*map)?)
 }
 
 // The tape from `at` on, if it has `count` bytes there.
@@ -55,9 +51,9 @@ fn bytes_from<'a>(tape: &'a [u8], at: usize, count: usize) -> Result<&'a [u8], T
 // Reads the record at the front of `bytes`, which has this form and is there as a whole.
 fn read_fields<'a, L: Length>(shape: Shape, bytes: &'a [u8]) -> Result<Record<'a>, RecordFault>
     requires map { slice_index bytes.now 0 ≡ map_of shape }
-    requires whole { size_of L.Length.octets (map_of shape) ≤ length bytes.now }
-    ensures reads { MatchResult result (λ x. (item_of x ≡ item_in L.Length.octets bytes.now) × (legal_state (item_of x) ≡ true)) (λ f. (f ≡ bad_state) × (legal_state (item_in L.Length.octets bytes.now) ≡ false)) }
-    ensures same { IfOk result (λ x. record_bytes (item_of x) ≡ take (size_of L.Length.octets (map_of shape)) bytes.now) }
+    requires whole { size_of L.WIDTH (map_of shape) ≤ length bytes.now }
+    ensures reads { MatchResult result (λ x. (item_of x ≡ item_in L.WIDTH bytes.now) × (legal_state (item_of x) ≡ true)) (λ f. (f ≡ of_content bad_state) × (legal_state (item_in L.WIDTH bytes.now) ≡ false)) }
+    ensures same { IfOk result (λ x. record_bytes (item_of x) ≡ take (size_of L.WIDTH (map_of shape)) bytes.now) }
 {
     match shape {
         Shape::Lay => Ok(Record::Lay {
@@ -71,7 +67,7 @@ fn read_fields<'a, L: Length>(shape: Shape, bytes: &'a [u8]) -> Result<Record<'a
         }),
         Shape::Bar => Ok(Record::Bar {
             trunk: read_pair(bytes, 1),
-            switch: switch_of(read_pair(bytes, 3))?,
+            switch: Switch::try_from(read_pair(bytes, 3))?,
         }),
         Shape::Home => Ok(Record::Home {
             home: read_pair(bytes, 1),
@@ -81,18 +77,8 @@ fn read_fields<'a, L: Length>(shape: Shape, bytes: &'a [u8]) -> Result<Record<'a
 
 // The bytes of the length at `at`.
 fn length_at<'a, L: Length>(bytes: &'a [u8], at: usize) -> &'a [u8]
-    requires { at + L.Length.octets ≤ length bytes.now }
-    ensures { result.now ≡ take L.Length.octets (drop at bytes.now) }
+    requires { at + L.WIDTH ≤ length bytes.now }
+    ensures { result.now ≡ take L.WIDTH (drop at bytes.now) }
 {
-    &bytes[at..at + L::tape_width()]
-}
-
-fn switch_of(state: u16) -> Result<Switch, RecordFault>
-    ensures { MatchResult result (λ s. state ≡ state_of s) (λ f. (f ≡ bad_state) × (2 ≤ state)) }
-{
-    match state {
-        0 => Ok(Switch::Bar),
-        1 => Ok(Switch::Unbar),
-        _ => Err(RecordFault::BadState),
-    }
+    &bytes[at..at + L::WIDTH]
 }

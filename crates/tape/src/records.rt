@@ -1,8 +1,10 @@
-ghost use Rattle.std.specs.Prelude.{◌≡◌};
+ghost use Rattle.std.specs.Prelude.{◌≡◌, ◌≤◌, MatchResult};
+ghost use Rattle.tape.specs.declared.faults.ContentFault.TheVariants.{BadState as bad_state};
 ghost use Rattle.tape.specs.Format.{of_width};
-ghost use Rattle.tape.specs.Reading.{item_of, map_of};
+ghost use Rattle.tape.specs.Reading.{item_of, map_of, state_of};
 ghost use Rattle.tape.specs.Writing.{item_map};
 
+use super::faults::ContentFault;
 use super::shapes::Shape;
 use routing::Length;
 
@@ -11,6 +13,20 @@ use routing::Length;
 pub enum Switch {
     Bar = 0,
     Unbar = 1,
+}
+
+impl TryFrom<u16> for Switch {
+    type Error = ContentFault;
+
+    ghost try_from_gives = { λ state r. MatchResult r (λ s. state ≡ state_of s) (λ f. (f ≡ bad_state) × (2 ≤ state)) };
+
+    fn try_from(state: u16) -> Result<Switch, ContentFault> {
+        match state {
+            0 => Ok(Switch::Bar),
+            1 => Ok(Switch::Unbar),
+            _ => Err(ContentFault::BadState),
+        }
+    }
 }
 
 // A record. Its length is a part of the tape: as many bytes as the kind of length has there.
@@ -48,13 +64,11 @@ impl Record<'_> {
 
     // Whether its length, if it has one, is as wide as a length of this kind.
     pub(crate) fn is_of_width<L: Length>(self) -> bool
-        ensures { result ≡ of_width L.Length.octets (item_of self.entry) }
+        ensures { result ≡ of_width L.WIDTH (item_of self.entry) }
     {
         match self {
-            Record::Lay { length, .. } => length.len() == L::tape_width(),
-            Record::Reprice { length, .. } => length.len() == L::tape_width(),
-            Record::Bar { .. } => true,
-            Record::Home { .. } => true,
+            Record::Lay { length, .. } | Record::Reprice { length, .. } => length.len() == L::WIDTH,
+            Record::Bar { .. } | Record::Home { .. } => true,
         }
     }
 }

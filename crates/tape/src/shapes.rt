@@ -1,7 +1,9 @@
-ghost use Rattle.std.specs.Prelude.{◌≡◌, ◌-◌, ◌^◌, min, false, MatchOption};
+ghost use Rattle.std.specs.Prelude.{◌≡◌, ◌-◌, ◌^◌, min, false, MatchResult};
+ghost use Rattle.tape.specs.declared.faults.ContentFault.TheVariants.{IllegalMap as illegal_map};
 ghost use Rattle.tape.specs.Format.{is_legal, size_of};
 ghost use Rattle.tape.specs.Reading.{map_of};
 
+use super::faults::ContentFault;
 use routing::Length;
 
 // The bits of the two-byte fields in a map.
@@ -19,20 +21,23 @@ pub(crate) enum Shape {
     Home = 0x02,
 }
 
-impl Shape {
-    // The form with this map, if the map is legal.
-    pub(crate) fn of(map: u8) -> Option<Shape>
-        ensures { MatchOption result (is_legal map ≡ false) (λ s. map ≡ map_of s) }
-    {
+impl TryFrom<u8> for Shape {
+    type Error = ContentFault;
+
+    ghost try_from_gives = { λ map r. MatchResult r (λ s. map ≡ map_of s) (λ f. (f ≡ illegal_map) × (is_legal map ≡ false)) };
+
+    fn try_from(map: u8) -> Result<Shape, ContentFault> {
         match map {
-            0x16 => Some(Shape::Lay),
-            0x11 => Some(Shape::Reprice),
-            0x09 => Some(Shape::Bar),
-            0x02 => Some(Shape::Home),
-            _ => None,
+            0x16 => Ok(Shape::Lay),
+            0x11 => Ok(Shape::Reprice),
+            0x09 => Ok(Shape::Bar),
+            0x02 => Ok(Shape::Home),
+            _ => Err(ContentFault::IllegalMap),
         }
     }
+}
 
+impl Shape {
     pub(crate) fn map(self) -> u8
         ensures { result ≡ map_of self }
     {
@@ -42,13 +47,9 @@ impl Shape {
 
 // How many bytes a record with this map has. A sum over the largest number stays at it, and no tape is so long.
 pub(crate) fn size_of<L: Length>(map: u8) -> usize
-    ensures { result ≡ min (size_of L.Length.octets map) (2 ^ 64 - 1) }
+    ensures { result ≡ min (size_of L.WIDTH map) (2 ^ 64 - 1) }
 {
     let fields = (map & FIELDS).count_ones() as usize;
-    let width = if map & LENGTH == LENGTH {
-        L::tape_width()
-    } else {
-        0
-    };
+    let width = if map & LENGTH == LENGTH { L::WIDTH } else { 0 };
     (1 + 2 * fields).saturating_add(width)
 }

@@ -17,18 +17,15 @@ fn copied(tape: &[u8], into: &mut [u8]) -> Result<usize, RecordFault> {
     Ok(write_record::<Charge>(placed.record, into)?)
 }
 
-// The number of the fault that `copied` is answered with; 0 if there is none.
-fn fault(tape: &[u8], into: &mut [u8]) -> u16 {
-    match copied(tape, into) {
-        Ok(_) => 0,
-        Err(fault) => fault.number(),
-    }
+// The number of the fault that `copied` is answered with.
+fn fault(tape: &[u8], into: &mut [u8]) -> Option<u16> {
+    copied(tape, into).err().map(|fault| fault.number())
 }
 
 // The tape, cut at each of its bytes.
 fn cut_short(rt: &impl Abort, tape: &[u8], into: &mut [u8]) {
     for n in 0..tape.len() {
-        assert_eq!(rt; fault(&tape[0..n], into), 18);
+        assert_eq!(rt; fault(&tape[..n], into), Some(18));
     }
 }
 
@@ -63,9 +60,9 @@ fn a_lay_has_its_fields(rt: HostRuntime) -> Result<(), Fail> {
 fn faults_have_their_numbers(rt: HostRuntime) {
     let mut copy = [7; 8];
     cut_short(&rt, &LAY, &mut copy);
-    assert_eq!(rt; fault(&[0x17], &mut copy), 20);
-    assert_eq!(rt; fault(&[0x09, 0, 0, 0, 2], &mut copy), 21);
-    assert_eq!(rt; fault(&LAY, &mut copy), 22);
+    assert_eq!(rt; fault(&[0x17], &mut copy), Some(20));
+    assert_eq!(rt; fault(&[0x09, 0, 0, 0, 2], &mut copy), Some(21));
+    assert_eq!(rt; fault(&LAY, &mut copy), Some(22));
     assert_eq!(rt; copy, [7; 8]);
 }
 

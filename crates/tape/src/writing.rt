@@ -10,36 +10,36 @@ use super::shapes::size_of;
 use routing::Length;
 
 // Writes a record over the front of `into`, and answers how many bytes it has. A refusal writes nothing.
-pub fn write_record<L: Length>(record: Record<'_>, into: &mut [u8]) -> Result<usize, TapeFault>
-    ensures count { result ≡ count_of L.Length.octets (item_of «record».entry) (length into.old) }
-    ensures bytes { into.new ≡ bytes_after L.Length.octets (item_of «record».entry) into.old }
-    ensures back { IfOk result (λ n. record_at L.Length.octets into.new 0 ≡ Ok (record { item = item_of «record».entry; end = n })) }
+pub fn write_record<L: Length>(item: Record<'_>, into: &mut [u8]) -> Result<usize, TapeFault>
+    ensures count { result ≡ count_of L.WIDTH (item_of item.entry) (length into.old) }
+    ensures bytes { into.new ≡ bytes_after L.WIDTH (item_of item.entry) into.old }
+    ensures back { IfOk result (λ n. record_at L.WIDTH into.new 0 ≡ Ok (record { item = item_of item.entry; end = n })) }
 {
-    let size = size_within::<L>(record, into.len())?;
-    write_fields(record, into);
+    let size = size_within::<L>(item, into.len())?;
+    write_fields(item, into);
     Ok(size)
 }
 
 // How many bytes the record has, if its length is of its width and `room` bytes are enough.
-fn size_within<L: Length>(record: Record<'_>, room: usize) -> Result<usize, TapeFault>
+fn size_within<L: Length>(item: Record<'_>, room: usize) -> Result<usize, TapeFault>
     requires { room < 2 ^ 63 }
-    ensures { result ≡ count_of L.Length.octets (item_of «record».entry) room }
+    ensures { result ≡ count_of L.WIDTH (item_of item.entry) room }
 {
-    let size = size_of::<L>(record.shape().map());
-    if !record.is_of_width::<L>() || room < size {
+    let size = size_of::<L>(item.shape().map());
+    if !item.is_of_width::<L>() || room < size {
         return Err(TapeFault::NoRoom);
     }
     Ok(size)
 }
 
 // Writes a record for which there is room.
-fn write_fields(record: Record<'_>, into: &mut [u8])
-    requires { length (record_bytes (item_of «record»)) ≤ length into.old }
-    ensures bytes { into.new ≡ over_front (record_bytes (item_of «record».entry)) into.old }
-    ensures short { Short (item_of «record».entry) }
+fn write_fields(item: Record<'_>, into: &mut [u8])
+    requires { length (record_bytes (item_of item)) ≤ length into.old }
+    ensures bytes { into.new ≡ over_front (record_bytes (item_of item.entry)) into.old }
+    ensures short { Short (item_of item.entry) }
 {
-    into[0] = record.shape().map();
-    match record {
+    into[0] = item.shape().map();
+    match item {
         Record::Lay { from, to, length } => {
             write_pair(from, into, 1);
             write_pair(to, into, 3);

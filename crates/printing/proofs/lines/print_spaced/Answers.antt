@@ -1,6 +1,5 @@
-use Rattle.std.proofs.Common.{◌++◌, string_bytes, ap, ◌∙◌, append_assoc}
-use Rattle.std.proofs.lemmas.List.{take_all, take_more}
-use Rattle.printing.specs.Lines.{each_spaced}
+use Rattle.std.proofs.Common.{append_assoc}
+use Rattle.std.proofs.lemmas.List.{take_more}
 use Rattle.printing.proofs.Texts.{spaced_more}
 use Rattle.printing.proofs.lines.print_spaced.Goals as goal
 
@@ -10,7 +9,3 @@ loop-t-preserved c =
     let inv = c.loop-t.invariant in
     let more = take_more c.args.numbers.now c.loop-t.t-index 0 c.loop-t-test.true in
     simp (more, spaced_more, e₁, inv, append_assoc)
-
-pub returns : goal.returns
-returns c =
-    c.loop-t.invariant ∙ ap (λ xs. string_bytes c.args.out.now ++ each_spaced xs) (take_all c.loop-t.t-index c.args.numbers.now c.loop-t-test.false)

@@ -1,6 +1,6 @@
-use Rattle.std.proofs.Common.{◌≡◌, ◌++◌, take, string_bytes}
-use Rattle.printing.specs.Lines.{each_spaced}
+use Rattle.std.proofs.Common.{take}
+use Rattle.printing.specs.Lines.{Adds, each_spaced}
 use Rattle.printing.proofs.lines.print_spaced.Given as goal
 
 abbrev pub invariant-loop-t : goal.invariant-loop-t
-invariant-loop-t l = string_bytes l.out ≡ string_bytes l.initial.out ++ each_spaced (take l.t-index l.numbers)
+invariant-loop-t l = Adds (each_spaced (take l.t-index l.numbers)) l.initial.out l.out

@@ -1,12 +1,8 @@
-use Rattle.std.proofs.Common.{Err, Result, sym, refl, ap, ◌∙◌, subst}
+use Rattle.std.proofs.Common.{Err, sym, refl, ap, ◌∙◌}
 use Rattle.std.proofs.lemmas.Result.{err_from_is_err_and}
-use Rattle.book.specs.State.{state_of}
 use Rattle.tape.specs.declared.faults.RecordFault.{RecordFault}
-use Rattle.tape.specs.Reading.{item_of, read_as}
-use Rattle.sheet.specs.declared.applying.Effect.{Effect}
-use Rattle.sheet.specs.Applying.{Applied}
+use Rattle.tape.specs.Reading.{read_as}
 use Rattle.sheet.specs.Taking.{Taken}
-use Rattle.sheet.specs.Told.{form_of}
 use Rattle.sheet.proofs.telling.take_record.Goals as goal
 
 pub returns-in_err-placed : goal.returns-in_err-placed
@@ -14,24 +10,12 @@ returns-in_err-placed g c = λ number n first h to.
     let e = err_from_is_err_and c.from_residual.result c.from_residual.ensures.1 in
     Taken.unread (sym c.read_record.ensures.reads ∙ ap read_as c.in_err-placed.was) (e.1 ∙ ap (λ (f : RecordFault). Err f) e.2) refl
 
-pub returns-in_err-effect : goal.returns-in_err-effect
-returns-in_err-effect g c = λ number n first h to.
-    let F = form_of g.L.Length.kind g.L.Length.octets g.L.TapeLength.meant g.L.Printed.printed in
-    let s = state_of c.args.book.now c.args.lengths.now in
-    let s' = state_of c.apply.new.book c.apply.new.lengths in
-    let placed = c.in_ok-placed.placed in
-    let e = err_from_is_err_and c.from_residual-in_err-effect.result c.from_residual-in_err-effect.ensures.1 in
-    Taken.turned_away (sym c.read_record.ensures.reads ∙ ap read_as c.in_ok-placed.was)
-    (subst (λ (y : Result Effect RecordFault). Applied F number n first h s (item_of placed.record) y s') c.in_err-effect.was (c.apply.ensures number n first h to))
-    (e.1 ∙ ap (λ (f : RecordFault). Err f) e.2)
+pub returns-in_err-ran : goal.returns-in_err-ran
+returns-in_err-ran g c = λ number n first h to.
+    let e = err_from_is_err_and c.from_residual-in_err-ran.result c.from_residual-in_err-ran.ensures.1 in
+    Taken.turned_away (sym c.read_record.ensures.reads ∙ ap read_as c.in_ok-placed.was) (rw c.in_err-ran.was at (c.apply.ensures number n first h to)) (e.1 ∙ ap (λ (f : RecordFault). Err f) e.2)
 
 pub returns : goal.returns
 returns g c = λ number n first h to.
-    let F = form_of g.L.Length.kind g.L.Length.octets g.L.TapeLength.meant g.L.Printed.printed in
-    let s = state_of c.args.book.now c.args.lengths.now in
-    let s' = state_of c.apply.new.book c.apply.new.lengths in
-    let placed = c.in_ok-placed.placed in
     let within = c.in_ok-placed.ensures.within in
-    Taken.applies (sym c.read_record.ensures.reads ∙ ap read_as c.in_ok-placed.was)
-    (subst (λ (y : Result Effect RecordFault). Applied F number n first h s (item_of placed.record) y s') c.in_ok-effect.was (c.apply.ensures number n first h to))
-    refl within.0 within.1
+    Taken.applies (sym c.read_record.ensures.reads ∙ ap read_as c.in_ok-placed.was) (rw c.in_ok-ran.was at (c.apply.ensures number n first h to)) refl within.0 within.1

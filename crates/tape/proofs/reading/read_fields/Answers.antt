@@ -1,6 +1,7 @@
 use Rattle.std.proofs.Common.{sym, refl, ap, ◌∙◌, arith}
 use Rattle.std.proofs.lemmas.Result.{err_from_is_err_and}
 use Rattle.std.proofs.lemmas.Bool.{le-ltb}
+use Rattle.tape.specs.declared.faults.RecordFault.TheVariants.{Content}
 use Rattle.tape.specs.Fields.{Pair}
 use Rattle.tape.specs.Format.{legal_state}
 use Rattle.tape.specs.Reading.{map_of, state_of}
@@ -42,19 +43,19 @@ returns-in-Reprice g c =
     let f = reprice_read _ _ _ c.requires.map c.requires.whole _ _ (ap map_of c.in-Reprice.is) c.read_pair-in-Reprice.ensures c.length_at-in-Reprice.ensures in
     record { reads = (f.item, refl); same = f.same }
 
-pub returns-in_err-switch_of-in-Bar : goal.returns-in_err-switch_of-in-Bar
-returns-in_err-switch_of-in-Bar g c =
+pub returns-in_err-try_from-in-Bar : goal.returns-in_err-try_from-in-Bar
+returns-in_err-try_from-in-Bar g c =
     let p = err_from_is_err_and c.from_residual.result c.from_residual.ensures.1 in
-    let h = c.in_err-switch_of-in-Bar.ensures in
+    let h = c.in_err-try_from-in-Bar.ensures in
     let f = bar_read _ _ _ c.requires.map c.requires.whole _ _ (ap map_of c.in-Bar.is) c.read_pair-in-Bar.ensures c.read_pair-in-Bar-2.ensures in
-    rw p.1 (record { reads = (p.2 ∙ h.0, sym (ap legal_state f.item) ∙ le-ltb _ 2 h.1); same = tt })
+    rw p.1 (record { reads = (p.2 ∙ ap Content h.0, sym (ap legal_state f.item) ∙ le-ltb _ 2 h.1); same = tt })
 
-pub returns-in_ok-switch_of-in-Bar : goal.returns-in_ok-switch_of-in-Bar
-returns-in_ok-switch_of-in-Bar g c =
-    let h = c.in_ok-switch_of-in-Bar.ensures in
-    let q : Pair c.args.bytes.now 3 (state_of c.in_ok-switch_of-in-Bar.field-0) = rw h at c.read_pair-in-Bar-2.ensures in
+pub returns-in_ok-try_from-in-Bar : goal.returns-in_ok-try_from-in-Bar
+returns-in_ok-try_from-in-Bar g c =
+    let h = c.in_ok-try_from-in-Bar.ensures in
+    let q : Pair c.args.bytes.now 3 (state_of c.in_ok-try_from-in-Bar.field-0) = rw h at c.read_pair-in-Bar-2.ensures in
     let f = bar_read _ _ _ c.requires.map c.requires.whole _ _ (ap map_of c.in-Bar.is) c.read_pair-in-Bar.ensures q in
-    record { reads = (f.item, state_legal c.in_ok-switch_of-in-Bar.field-0); same = f.same }
+    record { reads = (f.item, state_legal c.in_ok-try_from-in-Bar.field-0); same = f.same }
 
 pub returns-in-Home : goal.returns-in-Home
 returns-in-Home g c =

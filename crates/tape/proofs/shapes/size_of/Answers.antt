@@ -21,6 +21,6 @@ overflow_add-fields g c = let h = few c.args.map in search rules
 pub returns : goal.returns
 returns g c =
     elim c.if-map-eq-LENGTH.branch [
-      | then-map-eq-LENGTH w ↦ omega (arith, size_with g.L.Length.octets c.args.map w.if-map-eq-LENGTH.true, w.width-is, w.tape_width-width.ensures, c.saturating_add.ensures)
-      | else-map-eq-LENGTH w ↦ omega (arith, size_without g.L.Length.octets c.args.map w.if-map-eq-LENGTH.false, w.width-is, c.saturating_add.ensures)
+      | then-map-eq-LENGTH w ↦ omega (arith, size_with g.L.Length.WIDTH c.args.map w.if-map-eq-LENGTH.true, w.width-is, c.saturating_add.ensures)
+      | else-map-eq-LENGTH w ↦ omega (arith, size_without g.L.Length.WIDTH c.args.map w.if-map-eq-LENGTH.false, w.width-is, c.saturating_add.ensures)
     ]
