@@ -1,6 +1,5 @@
 use super::stories::close;
 use book::making::fit;
-use book::outcome::Fitness;
 use book::refusal::{Refusal, Refused};
 use book::{Book, Space};
 use lengths::charge::Charge;
@@ -74,10 +73,10 @@ fn lay(from: u16, to: u16, mills: i32) -> Call<Charge> {
 #[test]
 fn what_can_make_a_book(rt: HostRuntime) {
     let lengths = [Charge::of(0); 256];
-    assert_eq!(rt; fit(0, &lengths), Fitness::BadSize);
-    assert_eq!(rt; fit(257, &lengths), Fitness::BadSize);
-    assert_eq!(rt; fit(256, &lengths), Fitness::Fit);
-    assert_eq!(rt; fit(256, &lengths[0..255]), Fitness::ShortList);
+    assert_eq!(rt; fit(0, &lengths), Err(Refusal::BadSize));
+    assert_eq!(rt; fit(257, &lengths), Err(Refusal::BadSize));
+    assert_eq!(rt; fit(256, &lengths), Ok(()));
+    assert_eq!(rt; fit(256, &lengths[0..255]), Err(Refusal::ShortList));
 }
 
 #[test]

@@ -17,9 +17,11 @@ const TRUNKS: [(u16, u16, i32); 5] = [(0, 2, 7), (0, 1, 4), (1, 2, -2), (2, 3, 3
 // How many exchanges make a book.
 fn show_fit(rt: &impl Print) -> std::io::Result<()> {
     let lengths = [Charge::of(0); 257];
-    for n in 256..258usize {
-        let fitness = fit(n, &lengths);
-        println!(rt; "{n} exchanges: {fitness:?}")?;
+    for n in 256..258 {
+        match fit(n, &lengths) {
+            Ok(()) => println!(rt; "{n} exchanges: Fit")?,
+            Err(refusal) => println!(rt; "{n} exchanges: {refusal:?}")?,
+        }
     }
     Ok(())
 }
