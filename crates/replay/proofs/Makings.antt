@@ -1,6 +1,7 @@
 -- One call and the ticket that is held, before it and after it.
 use Rattle.std.proofs.Common.{◌≡◌, ℕ, Bool, true, false, List, [], is_ok, Some, None, Ok, Err, Option, Result, sym, refl, ap, ◌∙◌, subst, arith}
 use Rattle.std.proofs.lemmas.Bool.{both_ways}
+use Rattle.std.specs.Result.{IsOkAnd, MatchResult}
 use Rattle.routing.specs.declared.Trunk.{Trunk}
 use Rattle.routing.specs.Kind.{Kind}
 use Rattle.routing.specs.Rules.{Run}
@@ -18,7 +19,8 @@ use Rattle.book.specs.declared.outcome.Ending.{Ending}
 use Rattle.book.specs.declared.refusal.Refusal.{Refusal}
 use Rattle.book.specs.Answers.{answer_by, shows_end}
 use Rattle.book.specs.State.{phase_of, state_of, runs}
-use Rattle.replay.specs.Making.{Bears, Makes, SameName}
+use Rattle.replay.specs.declared.Answer.{Answer as CodeAnswer}
+use Rattle.replay.specs.Making.{Bears, Makes, SameName, accepted_of, answer_of}
 
 -- answers that are no refusals
 pub never_done : (k : ℕ) → done ≡ refused k → ⊥
@@ -31,6 +33,13 @@ never_numbered t k e = let z : ◌≡◌ {A = ℕ} 0 1 = cc in omega arith
 pub refused_err : {A : Type 0} (f : A → Answer) → ((a : A) (k : ℕ) → f a ≡ refused k → ⊥) → (r : Result A Refusal) (k : ℕ) → answer_by f r ≡ refused k → is_ok r ≡ false
 refused_err f never (Ok a) k e = absurd (never a k e)
 refused_err f never (Err j) k e = refl
+
+-- a call whose answer is made of what the book answered
+pub mapped : {A : Type 0} (P : A → CodeAnswer → Type 0) (f : A → Answer) (r : Result A Refusal) (r' : Result CodeAnswer Refusal) → ((a : A) (x : CodeAnswer) → P a x → accepted_of x ≡ f a)
+    → MatchResult r (λ a. IsOkAnd r' (P a)) (λ e. r' ≡ Err e) → answer_of r' ≡ answer_by f r
+mapped P f (Ok a) (Ok x) so p = so a x p
+mapped P f (Ok a) (Err k) so p = absurd p
+mapped P f (Err k) r' so is = ap answer_of is
 
 pub never_ended : (p : Ending) (k : ℕ) → shows_end p ≡ refused k → ⊥
 never_ended (Ending.Settled a b) k e = let z : ◌≡◌ {A = ℕ} 0 1 = cc in omega arith

@@ -1,6 +1,5 @@
-use Rattle.std.proofs.Common.{Err, Option, sym, ap, ◌∙◌}
+use Rattle.std.proofs.Common.{Err, sym, ap, ◌∙◌}
 use Rattle.std.proofs.lemmas.Result.{err_from_is_err_and}
-use Rattle.book.specs.declared.outcome.Ending.{Ending}
 use Rattle.book.specs.declared.refusal.Refusal.{Refusal}
 use Rattle.book.specs.State.{state_of}
 use Rattle.blocks.specs.Homes.{ending_of}

@@ -1,11 +1,11 @@
-use Rattle.std.proofs.Common.{length, refl, ap}
+use Rattle.std.proofs.Common.{length, refl, ap, rules}
 use Rattle.routing.specs.Calls.{lay, reprice, bar, unbar, begin, do_pass, finish, abandon, refusals, numbered, done}
 use Rattle.routing.specs.Orders.{Meaning}
 use Rattle.routing.proofs.Refused.{none_of}
 use Rattle.book.specs.Orders.{ByOrder}
 use Rattle.book.specs.State.{state_of}
 use Rattle.replay.specs.Making.{call_of, answer_of}
-use Rattle.replay.proofs.Makings.{makes_any, edit_made, run_made, refused_err, never_numbered, never_done}
+use Rattle.replay.proofs.Makings.{mapped, makes_any, edit_made, run_made, refused_err, never_numbered, never_done}
 use Rattle.replay.proofs.calling.make.Goals as goal
 
 pub returns-in-Lay : goal.returns-in-Lay
@@ -13,8 +13,8 @@ returns-in-Lay g c =
     let K = g.L.Length.kind in
     let b = c.args.book.now in
     let call = lay c.in-Lay.from c.in-Lay.to c.in-Lay.length in
-    let m = edit_made K b c.lay.new.self c.args.lengths.now c.lay.new.lengths (Meaning K b.n) (ByOrder K g.O.ScanOrder.answers b.n) (call_of b.number c.args.call) call (answer_of c.laid.result) _ c.args.held (length c.args.lengths.now)
-    (ap (call_of b.number) c.in-Lay.is) c.laid.ensures refl refl (λ e. (none_of (refusals K (state_of b c.args.lengths.now) call) e).1.1.0) (λ k is. c.lay.ensures.refused (refused_err (λ t. numbered t) never_numbered c.lay.result k is)) c.lay.ensures.serves.does c.requires in
+    let m = edit_made K b c.lay.new.self c.args.lengths.now c.lay.new.lengths (Meaning K b.n) (ByOrder K g.O.ScanOrder.answers b.n) (call_of b.number c.args.call) call (answer_of c.map.result) _ c.args.held (length c.args.lengths.now)
+    (ap (call_of b.number) c.in-Lay.is) (mapped _ (λ t. numbered t) c.lay.result c.map.result (λ a x p. search rules) c.map.ensures.cases) refl refl (λ e. (none_of (refusals K (state_of b c.args.lengths.now) call) e).1.1.0) (λ k is. c.lay.ensures.refused (refused_err (λ t. numbered t) never_numbered c.lay.result k is)) c.lay.ensures.serves.does c.requires in
     record { makes = m.makes; bears = m.bears; same = m.same }
 
 pub returns-in-Reprice : goal.returns-in-Reprice
@@ -22,8 +22,8 @@ returns-in-Reprice g c =
     let K = g.L.Length.kind in
     let b = c.args.book.now in
     let call = reprice c.in-Reprice.trunk c.in-Reprice.length in
-    let m = edit_made K b c.reprice.new.self c.args.lengths.now c.reprice.new.lengths (Meaning K b.n) (ByOrder K g.O.ScanOrder.answers b.n) (call_of b.number c.args.call) call (answer_of c.done.result) _ c.args.held (length c.args.lengths.now)
-    (ap (call_of b.number) c.in-Reprice.is) c.done.ensures refl refl (λ e. (none_of (refusals K (state_of b c.args.lengths.now) call) e).1.1.0) (λ k is. c.reprice.ensures.refused (refused_err (λ _. done) (λ _. never_done) c.reprice.result k is)) c.reprice.ensures.serves.does c.requires in
+    let m = edit_made K b c.reprice-repriced.new.self c.args.lengths.now c.reprice-repriced.new.lengths (Meaning K b.n) (ByOrder K g.O.ScanOrder.answers b.n) (call_of b.number c.args.call) call (answer_of c.map-in-Reprice.result) _ c.args.held (length c.args.lengths.now)
+    (ap (call_of b.number) c.in-Reprice.is) (mapped _ (λ _. done) c.reprice-repriced.result c.map-in-Reprice.result (λ a x p. search rules) c.map-in-Reprice.ensures.cases) refl refl (λ e. (none_of (refusals K (state_of b c.args.lengths.now) call) e).1.1.0) (λ k is. c.reprice-repriced.ensures.refused (refused_err (λ _. done) (λ _. never_done) c.reprice-repriced.result k is)) c.reprice-repriced.ensures.serves.does c.requires in
     record { makes = m.makes; bears = m.bears; same = m.same }
 
 pub returns-in-Bar : goal.returns-in-Bar
@@ -31,8 +31,8 @@ returns-in-Bar g c =
     let K = g.L.Length.kind in
     let b = c.args.book.now in
     let call = bar c.in-Bar.trunk in
-    let m = edit_made K b c.bar.new.self c.args.lengths.now c.args.lengths.now (Meaning K b.n) (ByOrder K g.O.ScanOrder.answers b.n) (call_of b.number c.args.call) call (answer_of c.done-in-Bar.result) _ c.args.held (length c.args.lengths.now)
-    (ap (call_of b.number) c.in-Bar.is) c.done-in-Bar.ensures refl refl (λ e. (none_of (refusals K (state_of b c.args.lengths.now) call) e).1.1.0) (λ k is. c.bar.ensures.refused (refused_err (λ _. done) (λ _. never_done) c.bar.result k is)) c.bar.ensures.serves.does c.requires in
+    let m = edit_made K b c.bar.new.self c.args.lengths.now c.args.lengths.now (Meaning K b.n) (ByOrder K g.O.ScanOrder.answers b.n) (call_of b.number c.args.call) call (answer_of c.map-in-Bar.result) _ c.args.held (length c.args.lengths.now)
+    (ap (call_of b.number) c.in-Bar.is) (mapped _ (λ _. done) c.bar.result c.map-in-Bar.result (λ a x p. search rules) c.map-in-Bar.ensures.cases) refl refl (λ e. (none_of (refusals K (state_of b c.args.lengths.now) call) e).1.1.0) (λ k is. c.bar.ensures.refused (refused_err (λ _. done) (λ _. never_done) c.bar.result k is)) c.bar.ensures.serves.does c.requires in
     record { makes = m.makes; bears = m.bears; same = m.same }
 
 pub returns-in-Unbar : goal.returns-in-Unbar
@@ -40,8 +40,8 @@ returns-in-Unbar g c =
     let K = g.L.Length.kind in
     let b = c.args.book.now in
     let call = unbar c.in-Unbar.trunk in
-    let m = edit_made K b c.unbar.new.self c.args.lengths.now c.args.lengths.now (Meaning K b.n) (ByOrder K g.O.ScanOrder.answers b.n) (call_of b.number c.args.call) call (answer_of c.done-in-Unbar.result) _ c.args.held (length c.args.lengths.now)
-    (ap (call_of b.number) c.in-Unbar.is) c.done-in-Unbar.ensures refl refl (λ e. (none_of (refusals K (state_of b c.args.lengths.now) call) e).1.1.0) (λ k is. c.unbar.ensures.refused (refused_err (λ _. done) (λ _. never_done) c.unbar.result k is)) c.unbar.ensures.serves.does c.requires in
+    let m = edit_made K b c.unbar.new.self c.args.lengths.now c.args.lengths.now (Meaning K b.n) (ByOrder K g.O.ScanOrder.answers b.n) (call_of b.number c.args.call) call (answer_of c.map-in-Unbar.result) _ c.args.held (length c.args.lengths.now)
+    (ap (call_of b.number) c.in-Unbar.is) (mapped _ (λ _. done) c.unbar.result c.map-in-Unbar.result (λ a x p. search rules) c.map-in-Unbar.ensures.cases) refl refl (λ e. (none_of (refusals K (state_of b c.args.lengths.now) call) e).1.1.0) (λ k is. c.unbar.ensures.refused (refused_err (λ _. done) (λ _. never_done) c.unbar.result k is)) c.unbar.ensures.serves.does c.requires in
     record { makes = m.makes; bears = m.bears; same = m.same }
 
 pub returns-in-Begin : goal.returns-in-Begin
