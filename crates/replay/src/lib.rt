@@ -38,6 +38,14 @@ pub struct Line<L> {
     pub arrival: Option<u16>,
 }
 
+impl<L> Line<L> {
+    // What a list of lines may hold before it is lent.
+    pub const BLANK: Line<L> = Line {
+        charge: None,
+        arrival: None,
+    };
+}
+
 // What was read of the finished run: a line for each exchange, or a loop of so many trunks.
 #[derive(Clone, Copy)]
 pub enum Read {
