@@ -4,7 +4,6 @@
 mod worked;
 
 use book::making::fit;
-use book::refusal::Refusal;
 use book::{Book, Space};
 use lengths::charge::Charge;
 use orders::topological_order::Topological;
@@ -32,14 +31,15 @@ fn lay_all(book: &mut Book, lengths: &mut [Charge]) {
     }
 }
 
-// The route to exchange 3, into a list of this size.
+// The route to exchange 3, into this list.
 fn show_route(
     rt: &impl Print,
-    route: Result<usize, Refusal>,
-    trunks: &[u16],
+    book: &Book,
+    lengths: &[Charge],
+    trunks: &mut [u16],
 ) -> std::io::Result<()> {
     let size = trunks.len();
-    match route {
+    match book.route(lengths, 3, trunks) {
         Ok(count) => println!(rt; "a list of {size}: {count} trunks, {trunks:?}"),
         Err(refusal) => {
             let number = refusal.number();
@@ -55,10 +55,8 @@ fn run(rt: &HostRuntime) -> anyhow::Result<()> {
     let mut book = Book::new(Space::take(rt.alloc())?, 1, 4);
     lay_all(&mut book, &mut lengths);
     let _ = run_whole(&mut book, &mut lengths, &Topological, 0);
-    let mut three = [0u16; 3];
-    show_route(rt, book.route(&lengths, 3, &mut three), &three)?;
-    let mut two = [0u16; 2];
-    show_route(rt, book.route(&lengths, 3, &mut two), &two)?;
+    show_route(rt, &book, &lengths, &mut [0; 3])?;
+    show_route(rt, &book, &lengths, &mut [0; 2])?;
     Ok(())
 }
 
