@@ -20,9 +20,6 @@ told_or (Ok a) d o reads is = cc
 told_or (Err k) d o reads is = let z : ◌≡◌ {A = ℕ} 0 1 = cc in absurd (omega arith)
 
 module _ {L : Type 0} (K : Kind L) (s : State L) (xs : List (Line L)) where
-  pub filled_none : Filled K 0 s xs xs
-  filled_none = record { long = refl; charges = λ x o l. absurd (omega arith); arrivals = λ x o l. absurd (omega arith); kept = λ x l. refl }
-
   pub filled_set : (x : ℕ) (ys : List (Line L)) (w : Line L) → Filled K x s xs ys → x < length ys → ((o : Option L) → charge K s x ≡ told o → w.charge ≡ o) → ((o : Option ℕ) → arrival s x ≡ told o → w.arrival ≡ o)
       → Filled K (x + 1) s xs (set ys x w)
   filled_set x ys w before inside charges arrivals = record {

@@ -18,7 +18,7 @@ use Rattle.book.specs.declared.Ticket.{Ticket}
 use Rattle.book.specs.declared.outcome.Ending.{Ending}
 use Rattle.book.specs.declared.refusal.Refusal.{Refusal}
 use Rattle.book.specs.Answers.{answer_by, shows_end}
-use Rattle.book.specs.State.{phase_of, state_of, runs}
+use Rattle.book.specs.State.{Owed, phase_of, state_of, runs}
 use Rattle.replay.specs.declared.Answer.{Answer as CodeAnswer}
 use Rattle.replay.specs.Making.{Bears, Makes, SameName, accepted_of, answer_of}
 
@@ -124,20 +124,6 @@ module _ {L : Type 0} (K : Kind L) where
   open_then R s (finish k) e is = subst (λ (x : Event L). is_running (applied K x s).phase ≡ false) (sym is) (finish_shut s.phase s.number s.size s.trunks s.lengths)
   open_then R s (abandon k) e is = subst (λ (x : Event L). is_running (applied K x s).phase ≡ false) (sym is) refl
 
-  -- a call that was not refused was accepted
-  pub record AcceptedSo (c : Call L) (s s' : State L) : Type 0 where
-    pub none : refusal K s c ≡ None
-    pub opened : is_running s'.phase ≡ leaves_open c
-
-  pub accepted_so : (R : List Trunk → Run L → List ℕ → Type 0) (s : State L) (c : Call L) (x : Answer) (s' : State L) → ((k : ℕ) → x ≡ refused k → ⊥) → Does K R s c x s' → AcceptedSo c s s'
-  accepted_so R s c x s' not_refused (Does.refuses {k = k} why answer same) = absurd (not_refused k answer)
-  accepted_so R s c x s' not_refused (Does.accepts e none is becomes answer) = record { none = none; opened = ap (λ (q : State L). is_running q.phase) becomes ∙ open_then R s c e is }
-
-  -- an edit finds no run open, and leaves none
-  edit_shut : (R : List Trunk → Run L → List ℕ → Type 0) (s : State L) (c : Call L) (x : Answer) (s' : State L) → leaves_open c ≡ false → (refusal K s c ≡ None → is_running s.phase ≡ false) → Does K R s c x s' → is_running s'.phase ≡ is_running s.phase
-  edit_shut R s c x s' shut found (Does.refuses why answer same) = ap (λ (q : State L). is_running q.phase) same
-  edit_shut R s c x s' shut found (Does.accepts e none is becomes answer) = ap (λ (q : State L). is_running q.phase) becomes ∙ open_then R s c e is ∙ shut ∙ sym (found none)
-
 -- the book of the code
 module _ {L : Type 0} (K : Kind L) (b b' : Book) (ls ls' : List L) where
   abbrev s : State L
@@ -148,10 +134,6 @@ module _ {L : Type 0} (K : Kind L) (b b' : Book) (ls ls' : List L) where
 
   runs_now : (x : Bool) → is_running s'.phase ≡ x → runs b'.phase ≡ x
   runs_now x e = sym (running_is b'.phase (run_of b'.work ls')) ∙ e
-
-  -- an accepted call of a run
-  pub shuts_so : (R : List Trunk → Run L → List ℕ → Type 0) (c : Call L) (x : Answer) → ((k : ℕ) → x ≡ refused k → ⊥) → leaves_open K c ≡ false → Does K R s c x s' → runs b'.phase ≡ false
-  shuts_so R c x not_refused way d = runs_now false ((accepted_so K R s c x s' not_refused d).opened ∙ way)
 
   -- an edit: refused, the book is as it was; accepted, no run is open, before it or after it
   edit_bears : (R : List Trunk → Run L → List ℕ → Type 0) (c : Call L) (x : Answer) (held : Option Ticket) (size : ℕ) → leaves_open K c ≡ false → (refusal K s c ≡ None → is_running s.phase ≡ false)
@@ -185,3 +167,11 @@ module _ {L : Type 0} (K : Kind L) (b b' : Book) (ls ls' : List L) where
     bears = bears;
     same = makes_name K S s c₀ x s' m;
   }
+
+  -- a call that shows the ticket of the run
+  pub shown_own : (R : List Trunk → Run L → List ℕ → Type 0) (t : Ticket) (size : ℕ) (c : ℕ → Call L) (x : Answer) → Owed t b size → Does K R s (c t.number) x s' → Makes K R s (c b.number) x s'
+  shown_own R t size c x owed d = Makes.does (subst (λ (k : ℕ). Does K R s (c k) x s') owed.bears d)
+
+-- the ticket that is held is owed
+pub held_owed : {held held' : Option Ticket} {t : Ticket} (b : Book) (size : ℕ) → Bears held b size → held' ≡ held → held' ≡ Some t → Owed t b size
+held_owed b size bears same is = subst (λ (h : Option Ticket). Bears h b size) (sym same ∙ is) bears

@@ -29,7 +29,7 @@ fn make_all<L: Length, O: ScanOrder<L>>(
 {
     let mut held = None;
     for (i, call) in calls.iter().enumerate() {
-        (answers[i], held) = make(book, lengths, order, held, *call);
+        answers[i] = make(book, lengths, &mut held, order, *call);
     }
     held
 }

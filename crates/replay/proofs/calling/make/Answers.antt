@@ -13,7 +13,7 @@ returns-in-Lay g c =
     let K = g.L.Length.kind in
     let b = c.args.book.now in
     let call = lay c.in-Lay.from c.in-Lay.to c.in-Lay.length in
-    let m = edit_made K b c.lay.new.self c.args.lengths.now c.lay.new.lengths (Meaning K b.n) (ByOrder K g.O.ScanOrder.answers b.n) (call_of b.number c.args.call) call (answer_of c.map.result) _ c.args.held (length c.args.lengths.now)
+    let m = edit_made K b c.lay.new.self c.args.lengths.now c.lay.new.lengths (Meaning K b.n) (ByOrder K g.O.ScanOrder.answers b.n) (call_of b.number c.args.call) call (answer_of c.map.result) _ c.args.held.now (length c.args.lengths.now)
     (ap (call_of b.number) c.in-Lay.is) (mapped _ (λ t. numbered t) c.lay.result c.map.result (λ a x p. search rules) c.map.ensures.cases) refl refl (λ e. (none_of (refusals K (state_of b c.args.lengths.now) call) e).1.1.0) (λ k is. c.lay.ensures.refused (refused_err (λ t. numbered t) never_numbered c.lay.result k is)) c.lay.ensures.serves.does c.requires in
     record { makes = m.makes; bears = m.bears; same = m.same }
 
@@ -22,8 +22,8 @@ returns-in-Reprice g c =
     let K = g.L.Length.kind in
     let b = c.args.book.now in
     let call = reprice c.in-Reprice.trunk c.in-Reprice.length in
-    let m = edit_made K b c.reprice-repriced.new.self c.args.lengths.now c.reprice-repriced.new.lengths (Meaning K b.n) (ByOrder K g.O.ScanOrder.answers b.n) (call_of b.number c.args.call) call (answer_of c.map-in-Reprice.result) _ c.args.held (length c.args.lengths.now)
-    (ap (call_of b.number) c.in-Reprice.is) (mapped _ (λ _. done) c.reprice-repriced.result c.map-in-Reprice.result (λ a x p. search rules) c.map-in-Reprice.ensures.cases) refl refl (λ e. (none_of (refusals K (state_of b c.args.lengths.now) call) e).1.1.0) (λ k is. c.reprice-repriced.ensures.refused (refused_err (λ _. done) (λ _. never_done) c.reprice-repriced.result k is)) c.reprice-repriced.ensures.serves.does c.requires in
+    let m = edit_made K b c.reprice.new.self c.args.lengths.now c.reprice.new.lengths (Meaning K b.n) (ByOrder K g.O.ScanOrder.answers b.n) (call_of b.number c.args.call) call (answer_of c.map-in-Reprice.result) _ c.args.held.now (length c.args.lengths.now)
+    (ap (call_of b.number) c.in-Reprice.is) (mapped _ (λ _. done) c.reprice.result c.map-in-Reprice.result (λ a x p. search rules) c.map-in-Reprice.ensures.cases) refl refl (λ e. (none_of (refusals K (state_of b c.args.lengths.now) call) e).1.1.0) (λ k is. c.reprice.ensures.refused (refused_err (λ _. done) (λ _. never_done) c.reprice.result k is)) c.reprice.ensures.serves.does c.requires in
     record { makes = m.makes; bears = m.bears; same = m.same }
 
 pub returns-in-Bar : goal.returns-in-Bar
@@ -31,7 +31,7 @@ returns-in-Bar g c =
     let K = g.L.Length.kind in
     let b = c.args.book.now in
     let call = bar c.in-Bar.trunk in
-    let m = edit_made K b c.bar.new.self c.args.lengths.now c.args.lengths.now (Meaning K b.n) (ByOrder K g.O.ScanOrder.answers b.n) (call_of b.number c.args.call) call (answer_of c.map-in-Bar.result) _ c.args.held (length c.args.lengths.now)
+    let m = edit_made K b c.bar.new.self c.args.lengths.now c.args.lengths.now (Meaning K b.n) (ByOrder K g.O.ScanOrder.answers b.n) (call_of b.number c.args.call) call (answer_of c.map-in-Bar.result) _ c.args.held.now (length c.args.lengths.now)
     (ap (call_of b.number) c.in-Bar.is) (mapped _ (λ _. done) c.bar.result c.map-in-Bar.result (λ a x p. search rules) c.map-in-Bar.ensures.cases) refl refl (λ e. (none_of (refusals K (state_of b c.args.lengths.now) call) e).1.1.0) (λ k is. c.bar.ensures.refused (refused_err (λ _. done) (λ _. never_done) c.bar.result k is)) c.bar.ensures.serves.does c.requires in
     record { makes = m.makes; bears = m.bears; same = m.same }
 
@@ -40,7 +40,7 @@ returns-in-Unbar g c =
     let K = g.L.Length.kind in
     let b = c.args.book.now in
     let call = unbar c.in-Unbar.trunk in
-    let m = edit_made K b c.unbar.new.self c.args.lengths.now c.args.lengths.now (Meaning K b.n) (ByOrder K g.O.ScanOrder.answers b.n) (call_of b.number c.args.call) call (answer_of c.map-in-Unbar.result) _ c.args.held (length c.args.lengths.now)
+    let m = edit_made K b c.unbar.new.self c.args.lengths.now c.args.lengths.now (Meaning K b.n) (ByOrder K g.O.ScanOrder.answers b.n) (call_of b.number c.args.call) call (answer_of c.map-in-Unbar.result) _ c.args.held.now (length c.args.lengths.now)
     (ap (call_of b.number) c.in-Unbar.is) (mapped _ (λ _. done) c.unbar.result c.map-in-Unbar.result (λ a x p. search rules) c.map-in-Unbar.ensures.cases) refl refl (λ e. (none_of (refusals K (state_of b c.args.lengths.now) call) e).1.1.0) (λ k is. c.unbar.ensures.refused (refused_err (λ _. done) (λ _. never_done) c.unbar.result k is)) c.unbar.ensures.serves.does c.requires in
     record { makes = m.makes; bears = m.bears; same = m.same }
 
@@ -49,8 +49,8 @@ returns-in-Begin g c =
     let K = g.L.Length.kind in
     let b = c.args.book.now in
     let S = ByOrder K g.O.ScanOrder.answers b.n in
-    let m = run_made K b c.begin.new.book c.args.lengths.now c.begin.new.lengths S (call_of b.number c.args.call) (begin c.in-Begin.home) (answer_of c.begin.result.0) c.begin.result.1 (length c.args.lengths.now) (ap (call_of b.number) c.in-Begin.is)
-    (makes_any K (Meaning K b.n) S (state_of b c.args.lengths.now) (begin c.in-Begin.home) (answer_of c.begin.result.0) (state_of c.begin.new.book c.begin.new.lengths) refl c.begin.ensures.makes) c.begin.ensures.bears in
+    let m = run_made K b c.begin.new.book c.args.lengths.now c.begin.new.lengths S (call_of b.number c.args.call) (begin c.in-Begin.home) (answer_of c.begin.result) c.begin.new.held (length c.args.lengths.now) (ap (call_of b.number) c.in-Begin.is)
+    (makes_any K (Meaning K b.n) S (state_of b c.args.lengths.now) (begin c.in-Begin.home) (answer_of c.begin.result) (state_of c.begin.new.book c.begin.new.lengths) refl c.begin.ensures.makes) c.begin.ensures.bears in
     record { makes = m.makes; bears = m.bears; same = m.same }
 
 pub returns-in-Pass : goal.returns-in-Pass
@@ -58,7 +58,7 @@ returns-in-Pass g c =
     let K = g.L.Length.kind in
     let b = c.args.book.now in
     let S = ByOrder K g.O.ScanOrder.answers b.n in
-    let m = run_made K b c.pass.new.book c.args.lengths.now c.pass.new.lengths S (call_of b.number c.args.call) (do_pass b.number) (answer_of c.pass.result.0) c.pass.result.1 (length c.args.lengths.now) (ap (call_of b.number) c.in-Pass.is)
+    let m = run_made K b c.pass.new.book c.args.lengths.now c.pass.new.lengths S (call_of b.number c.args.call) (do_pass b.number) (answer_of c.pass.result) c.args.held.now (length c.args.lengths.now) (ap (call_of b.number) c.in-Pass.is)
     c.pass.ensures.makes c.pass.ensures.bears in
     record { makes = m.makes; bears = m.bears; same = m.same }
 
@@ -67,8 +67,8 @@ returns-in-Finish g c =
     let K = g.L.Length.kind in
     let b = c.args.book.now in
     let S = ByOrder K g.O.ScanOrder.answers b.n in
-    let m = run_made K b c.finish.new.book c.args.lengths.now c.args.lengths.now S (call_of b.number c.args.call) (finish b.number) (answer_of c.finish.result.0) c.finish.result.1 (length c.args.lengths.now) (ap (call_of b.number) c.in-Finish.is)
-    (makes_any K (Meaning K b.n) S (state_of b c.args.lengths.now) (finish b.number) (answer_of c.finish.result.0) (state_of c.finish.new.book c.args.lengths.now) refl c.finish.ensures.makes) c.finish.ensures.bears in
+    let m = run_made K b c.finish.new.book c.args.lengths.now c.args.lengths.now S (call_of b.number c.args.call) (finish b.number) (answer_of c.finish.result) c.finish.new.held (length c.args.lengths.now) (ap (call_of b.number) c.in-Finish.is)
+    (makes_any K (Meaning K b.n) S (state_of b c.args.lengths.now) (finish b.number) (answer_of c.finish.result) (state_of c.finish.new.book c.args.lengths.now) refl c.finish.ensures.makes) c.finish.ensures.bears in
     record { makes = m.makes; bears = m.bears; same = m.same }
 
 pub returns-in-Abandon : goal.returns-in-Abandon
@@ -76,6 +76,6 @@ returns-in-Abandon g c =
     let K = g.L.Length.kind in
     let b = c.args.book.now in
     let S = ByOrder K g.O.ScanOrder.answers b.n in
-    let m = run_made K b c.abandon.new.book c.args.lengths.now c.args.lengths.now S (call_of b.number c.args.call) (abandon b.number) (answer_of c.abandon.result.0) c.abandon.result.1 (length c.args.lengths.now) (ap (call_of b.number) c.in-Abandon.is)
-    (makes_any K (Meaning K b.n) S (state_of b c.args.lengths.now) (abandon b.number) (answer_of c.abandon.result.0) (state_of c.abandon.new.book c.args.lengths.now) refl c.abandon.ensures.makes) c.abandon.ensures.bears in
+    let m = run_made K b c.abandon.new.book c.args.lengths.now c.args.lengths.now S (call_of b.number c.args.call) (abandon b.number) (answer_of c.abandon.result) c.abandon.new.held (length c.args.lengths.now) (ap (call_of b.number) c.in-Abandon.is)
+    (makes_any K (Meaning K b.n) S (state_of b c.args.lengths.now) (abandon b.number) (answer_of c.abandon.result) (state_of c.abandon.new.book c.args.lengths.now) refl c.abandon.ensures.makes) c.abandon.ensures.bears in
     record { makes = m.makes; bears = m.bears; same = m.same }

@@ -1,24 +1,18 @@
-use Rattle.std.proofs.Common.{◌≡◌, ℕ, length, Some, Option, sym, subst, rules}
+use Rattle.std.proofs.Common.{◌≡◌, length, refl, sym, subst, rules}
 use Rattle.routing.specs.Calls.{Answer, do_pass}
-use Rattle.routing.specs.Does.{Does}
-use Rattle.book.specs.declared.Ticket.{Ticket}
 use Rattle.book.specs.Answers.{answer_by, shows}
 use Rattle.book.specs.Orders.{ByOrder}
 use Rattle.book.specs.State.{state_of}
-use Rattle.replay.specs.Making.{Bears, Makes, answer_of}
-use Rattle.replay.proofs.Makings.{mapped}
+use Rattle.replay.specs.Making.{Makes, answer_of}
+use Rattle.replay.proofs.Makings.{held_owed, mapped, shown_own}
 use Rattle.replay.proofs.calling.pass.Goals as goal
 
-pub returns : goal.returns
-returns g c =
+pub returns-clause-makes : goal.returns-clause-makes
+returns-clause-makes g c =
     let K = g.L.Length.kind in
     let b = c.args.book.now in
+    let ls = c.args.lengths.now in
     let R = ByOrder K g.O.ScanOrder.answers b.n in
-    let s' = state_of c.pass-passed.new.self c.pass-passed.new.lengths in
-    let bears : Bears (Some c.in-Some.ticket) b (length c.args.lengths.now) = subst (λ (h : Option Ticket). Bears h b (length c.args.lengths.now)) c.in-Some.is c.requires in
-    let answered : answer_of c.map.result ≡ answer_by shows c.pass-passed.result = mapped _ shows c.pass-passed.result c.map.result (λ a x p. search rules) c.map.ensures.cases in
-    record {
-      makes = Makes.does (subst (λ (x : Answer). Does K R (state_of b c.args.lengths.now) (do_pass b.number) x s') (sym answered)
-          (subst (λ (k : ℕ). Does K R (state_of b c.args.lengths.now) (do_pass k) (answer_by shows c.pass-passed.result) s') bears.bears c.pass-passed.ensures.serves.does));
-      bears = c.pass-passed.ensures.owed c.in-Some.ticket bears;
-    }
+    let answered : answer_of c.map.result ≡ answer_by shows c.pass.result = mapped _ shows c.pass.result c.map.result (λ a x p. search rules) c.map.ensures.cases in
+    subst (λ (x : Answer). Makes K R (state_of b ls) (do_pass b.number) x (state_of c.pass.new.self c.pass.new.lengths)) (sym answered)
+    (shown_own K b c.pass.new.self ls c.pass.new.lengths R c.in-Some.ticket (length ls) do_pass _ (held_owed b (length ls) c.requires refl c.in-Some.is) c.pass.ensures.serves.does)
