@@ -1,19 +1,14 @@
 use Rattle.std.proofs.Common.{length}
 use Rattle.routing.specs.Calls.{finish}
-use Rattle.routing.specs.Orders.{Meaning}
 use Rattle.replay.proofs.Makings.{held_owed, shown_own}
 use Rattle.replay.proofs.calling.finish.Goals as goal
 
 pub returns-in-Ok-clause-makes : goal.returns-in-Ok-clause-makes
 returns-in-Ok-clause-makes g c =
-    let K = g.L.Length.kind in
-    let b = c.args.book.now in
-    let ls = c.args.lengths.now in
-    shown_own K b c.finish.new.self ls ls (Meaning K b.n) c.in-Some.ticket (length ls) finish _ (held_owed b (length ls) c.requires c.take.ensures.value c.in-Some.is) c.in-Ok.ensures.serves.does
+    let size = length c.args.lengths.now in
+    shown_own size finish (held_owed c.args.book.now size c.requires c.take.ensures.value c.in-Some.is) c.in-Ok.ensures.serves.does
 
 pub returns-in-Err-clause-makes : goal.returns-in-Err-clause-makes
 returns-in-Err-clause-makes g c =
-    let K = g.L.Length.kind in
-    let b = c.args.book.now in
-    let ls = c.args.lengths.now in
-    shown_own K b c.finish.new.self ls ls (Meaning K b.n) c.in-Some.ticket (length ls) finish _ (held_owed b (length ls) c.requires c.take.ensures.value c.in-Some.is) c.in-Err.ensures.serves.does
+    let size = length c.args.lengths.now in
+    shown_own size finish (held_owed c.args.book.now size c.requires c.take.ensures.value c.in-Some.is) c.in-Err.ensures.serves.does

@@ -12,7 +12,6 @@ returns-clause-makes g c =
     let K = g.L.Length.kind in
     let b = c.args.book.now in
     let ls = c.args.lengths.now in
-    let R = ByOrder K g.O.ScanOrder.answers b.n in
     let answered : answer_of c.map.result ≡ answer_by shows c.pass.result = mapped _ shows c.pass.result c.map.result (λ a x p. search rules) c.map.ensures.cases in
-    subst (λ (x : Answer). Makes K R (state_of b ls) (do_pass b.number) x (state_of c.pass.new.self c.pass.new.lengths)) (sym answered)
-    (shown_own K b c.pass.new.self ls c.pass.new.lengths R c.in-Some.ticket (length ls) do_pass _ (held_owed b (length ls) c.requires refl c.in-Some.is) c.pass.ensures.serves.does)
+    subst (λ (x : Answer). Makes K (ByOrder K g.O.ScanOrder.answers b.n) (state_of b ls) (do_pass b.number) x (state_of c.pass.new.self c.pass.new.lengths)) (sym answered)
+    (shown_own (length ls) do_pass (held_owed b (length ls) c.requires refl c.in-Some.is) c.pass.ensures.serves.does)
