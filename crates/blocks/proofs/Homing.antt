@@ -1,5 +1,5 @@
 -- The passes of a home are those of the rule, so its run is the one that the rule gives.
-use Rattle.std.proofs.Common.{◌≡◌, ℕ, zero, suc, ◌+◌, ◌-◌, ◌≤◌, true, false, List, None, Ok, Result, sym, refl, ap, ◌∙◌, subst, zero-add, arith}
+use Rattle.std.proofs.Common.{◌≡◌, ℕ, zero, suc, ◌+◌, ◌-◌, ◌≤◌, true, false, List, None, Ok, Option, Result, sym, refl, ap, ◌∙◌, subst, zero-add, arith}
 use Rattle.std.proofs.lemmas.Bool.{both_ways, not-false}
 use Rattle.routing.specs.declared.Trunk.{Trunk}
 use Rattle.routing.specs.declared.Verdict.{Verdict}
@@ -17,7 +17,6 @@ use Rattle.routing.proofs.Refused.{none_of}
 use Rattle.book.specs.declared.outcome.Ending.{Ending}
 use Rattle.book.specs.declared.refusal.Refusal.{Refusal}
 use Rattle.book.specs.Answers.{shows_end}
-use Rattle.whole_run.specs.declared.Ended.{Ended}
 use Rattle.whole_run.specs.Whole.{Carried, Passes, RunsOut, Whole}
 use Rattle.whole_run.proofs.Histories.{Since, since, since_begun, carried, not_given_up}
 use Rattle.blocks.specs.Homes.{Topologically, run_out, run_from, after_home, RunsHome, HomesRight, RunsWhole, ending_of}
@@ -103,7 +102,7 @@ module _ {L : Type 0} (K : Kind L) where
     for_n : (h : History L) → (book h).size ≡ n → (ts : List Trunk) (r : Run L) (a : List ℕ) → Topologically K (book h).size ts r a → Topologically K n ts r a
     for_n h size ts r a m = subst (λ (k : ℕ). Topologically K k ts r a) size m
 
-    homed : (h : History L) → Accepted K number n first (Topologically K n) h → (book h).size ≡ n → (home : ℕ) (x : Result Ended Refusal) (s' : State L)
+    homed : (h : History L) → Accepted K number n first (Topologically K n) h → (book h).size ≡ n → (home : ℕ) (x : Result (Option Ending) Refusal) (s' : State L)
         → Whole K (Topologically K (book h).size) (book h) home x s' → RunsHome K (book h) home (ending_of x) s' × Carried K number n first (Topologically K n) h s'
     homed h ok size home x s' (Whole.refuses {k = k} why is same) = (
       RunsHome.refuses why (ap ending_of is) same,
@@ -113,7 +112,7 @@ module _ {L : Type 0} (K : Kind L) where
         let at : Since K n number first (Topologically K n) (λ ts r a _ m. m.means) (Topologically K (book h).size) (for_n h size) h out.count q =
         since K n number first (Topologically K n) (λ ts r a _ m. m.means) (Topologically K (book h).size) (for_n h size) (since_begun K n number first (Topologically K n) (λ ts r a _ m. m.means) (Topologically K (book h).size) (for_n h size) h ok home none) out.passes in
         let few : out.count ≤ (book h).size = omega (arith, at.few, size) in (
-          subst (λ (y : Result Ending Refusal). RunsHome K (book h) home y s') (sym (ap ending_of is ∙ ap (λ (y : Ended). ending_of (Ok y)) ended)) (stands_so (book h) home e none out.passes few none_too becomes told),
+          subst (λ (y : Result Ending Refusal). RunsHome K (book h) home y s') (sym (ap ending_of is ∙ ap (λ (y : Option Ending). ending_of (Ok y)) ended)) (stands_so (book h) home e none out.passes few none_too becomes told),
           carried K n number first (Topologically K n) (λ ts r a _ m. m.means) (Topologically K (book h).size) (for_n h size) h out.count q at none_too s' becomes,
         )
     homed h ok size home x s' (Whole.runs {q = q} none out (RunsOut.gives_up working none_too ended becomes) is) =
@@ -125,7 +124,7 @@ module _ {L : Type 0} (K : Kind L) where
       pub whole : RunsWhole K s home r s'
       pub homes : HomesRight K s home r s'
 
-    pub promised_home : (x : Result Ended Refusal) (r : Result Ending Refusal) (s' : State L) → Whole K (Topologically K s.size) s home x s' → r ≡ ending_of x → PromisedHome r s'
+    pub promised_home : (x : Result (Option Ending) Refusal) (r : Result Ending Refusal) (s' : State L) → Whole K (Topologically K s.size) s home x s' → r ≡ ending_of x → PromisedHome r s'
     promised_home x r s' w is = record {
       whole = record { ended = x; whole = w; is = is };
       homes = λ number n first h ok made.

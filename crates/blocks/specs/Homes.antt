@@ -1,5 +1,5 @@
 -- The run of a home record: begin, passes in the topological order until the run is over, finish.
-use Rattle.std.specs.Prelude.{◌≡◌, ℕ, zero, suc, List, Some, None, Ok, Err, Result}
+use Rattle.std.specs.Prelude.{◌≡◌, ℕ, zero, suc, List, Some, None, Ok, Err, ok_or, Option, Result}
 use Rattle.routing.specs.declared.Trunk.{Trunk}
 use Rattle.routing.specs.declared.Verdict.TheVariants.{Working as working, Settled as settled, Looped as looped}
 use Rattle.routing.specs.Kind.{Kind}
@@ -15,8 +15,6 @@ use Rattle.book.specs.declared.refusal.Refusal.TheVariants.{RunNotOver}
 use Rattle.book.specs.Answers.{shows_end}
 use Rattle.book.specs.Orders.{ByOrder}
 use Rattle.book.specs.Refusal.{number_of}
-use Rattle.whole_run.specs.declared.Ended.{Ended}
-use Rattle.whole_run.specs.declared.Ended.TheVariants.{Finished, GivenUp}
 use Rattle.whole_run.specs.Whole.{Carried, Whole}
 use Rattle.blocks.specs.Blocks.{Block}
 
@@ -65,13 +63,12 @@ module _ {L : Type 0} (K : Kind L) where
       → RunsHome s home r s' × Carried K number n first (Topologically n) h s'
 
 -- a run that is given up is answered as one that is not over
-abbrev pub ending_of : Result Ended Refusal → Result Ending Refusal
-ending_of (Ok (Finished e)) = Ok e
-ending_of (Ok GivenUp) = Err RunNotOver
+abbrev pub ending_of : Result (Option Ending) Refusal → Result Ending Refusal
+ending_of (Ok e) = ok_or e RunNotOver
 ending_of (Err k) = Err k
 
 -- of any book: a whole run in the topological order
 pub record RunsWhole {L : Type 0} (K : Kind L) (s : State L) (home : ℕ) (r : Result Ending Refusal) (s' : State L) : Type 0 where
-  pub ended : Result Ended Refusal
+  pub ended : Result (Option Ending) Refusal
   pub whole : Whole K (Topologically K s.size) s home ended s'
   pub is : r ≡ ending_of ended

@@ -6,7 +6,6 @@ use book::outcome::Ending;
 use book::refusal::Refusal;
 use orders::topological_order::Topological;
 use routing::Length;
-use whole_run::Ended;
 use whole_run::running_out::run_whole;
 
 // A whole run from `home` in the topological order. One that passes without end would be answered as not over:
@@ -15,8 +14,5 @@ pub fn run_home<L: Length>(book: &mut Book, lengths: &mut [L], home: u16) -> Res
     ensures whole { RunsWhole L.Length.kind (state_of book.old lengths.old) home result (state_of book.new lengths.new) }
     ensures homes { HomesRight L.Length.kind (state_of book.old lengths.old) home result (state_of book.new lengths.new) }
 {
-    match run_whole(book, lengths, &Topological, home)? {
-        Ended::Finished(ending) => Ok(ending),
-        Ended::GivenUp => Err(Refusal::RunNotOver),
-    }
+    run_whole(book, lengths, &Topological, home)?.ok_or(Refusal::RunNotOver)
 }

@@ -12,31 +12,18 @@ use anyhow::anyhow;
 use dice::Dice;
 use lengths::charge::Charge;
 use lengths::charge_delay::ChargeDelay;
-use orders::queue_order::Queue;
-use orders::topological_order::Topological;
 use parts::Plain;
-use std::alloc::{AllocError, Global};
-use trials::{Difference, Tally, Trial};
+use trials::{Tally, Trial};
 
 // How many books of each kind of length are made.
 const BOOKS: u64 = 6000;
 
-// A book that follows from the seed, run in both orders.
-fn try_book<L: Plain>(
-    heap: Global,
-    seed: u64,
-    tally: &mut Tally,
-) -> Result<Result<(), Difference>, AllocError> {
-    let mut trial = Trial::<L>::make(heap, &mut Dice::new(seed))?;
-    let least = trial.least(heap)?;
-    Ok(trial.compare(&least, tally))
-}
-
-// Many books of one kind of length, from this seed on. Ends at the first difference.
+// A book for each seed from this one on, of one kind of length, run in both orders. Ends at the first difference.
 fn try_kind<L: Plain>(rt: &HostRuntime, what: &str, first: u32) -> anyhow::Result<()> {
-    let mut tally = Tally::new();
+    let mut tally = Tally::default();
     for seed in first as u64..first as u64 + BOOKS {
-        if let Err(difference) = try_book::<L>(rt.alloc(), seed, &mut tally)? {
+        let mut trial = Trial::<L>::make(rt.alloc(), &mut Dice::new(seed))?;
+        if let Err(difference) = trial.compare(&mut tally) {
             println!(rt; "{what}, seed {seed}: {difference:?}")?;
             return Err(anyhow!("the book and the other method differ"));
         }

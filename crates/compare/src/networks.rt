@@ -148,7 +148,7 @@ impl Link {
         L::of(self.mills, self.delay)
     }
 
-    // The same, told without it.
+    // What that comes to, told without it.
     pub fn parts<L: Plain>(self) -> Parts {
         L::plain(self.mills, self.delay)
     }

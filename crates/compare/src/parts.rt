@@ -1,6 +1,7 @@
 use lengths::charge::Charge;
 use lengths::charge_delay::ChargeDelay;
 use routing::Length;
+use std::ops::Add;
 
 // A length as plain numbers, compared by the charge first.
 #[derive(Clone, Copy, PartialEq, Eq, PartialOrd, Ord, Debug)]
@@ -11,8 +12,12 @@ pub struct Parts {
 
 impl Parts {
     pub const ZERO: Parts = Parts { mills: 0, delay: 0 };
+}
 
-    pub fn plus(self, other: Parts) -> Parts {
+impl Add for Parts {
+    type Output = Parts;
+
+    fn add(self, other: Parts) -> Parts {
         Parts {
             mills: self.mills.saturating_add(other.mills),
             delay: self.delay.saturating_add(other.delay),
@@ -20,14 +25,39 @@ impl Parts {
     }
 }
 
+impl From<(i32, u16)> for Parts {
+    fn from((mills, delay): (i32, u16)) -> Parts {
+        Parts {
+            mills: mills as i64,
+            delay: delay as u64,
+        }
+    }
+}
+
+impl From<Charge> for Parts {
+    fn from(charge: Charge) -> Parts {
+        Parts {
+            mills: charge.mills(),
+            delay: 0,
+        }
+    }
+}
+
+impl From<ChargeDelay> for Parts {
+    fn from(length: ChargeDelay) -> Parts {
+        Parts {
+            mills: length.mills(),
+            delay: length.delay(),
+        }
+    }
+}
+
 // A kind of length that can be made of plain numbers and read as such.
-pub trait Plain: Length {
+pub trait Plain: Length + Into<Parts> {
     fn of(mills: i32, delay: u16) -> Self;
 
     // What such a length comes to, told without it.
     fn plain(mills: i32, delay: u16) -> Parts;
-
-    fn parts(self) -> Parts;
 }
 
 impl Plain for Charge {
@@ -36,17 +66,7 @@ impl Plain for Charge {
     }
 
     fn plain(mills: i32, delay: u16) -> Parts {
-        Parts {
-            mills: mills as i64,
-            delay: 0,
-        }
-    }
-
-    fn parts(self) -> Parts {
-        Parts {
-            mills: self.mills(),
-            delay: 0,
-        }
+        Parts::from((mills, 0))
     }
 }
 
@@ -56,16 +76,6 @@ impl Plain for ChargeDelay {
     }
 
     fn plain(mills: i32, delay: u16) -> Parts {
-        Parts {
-            mills: mills as i64,
-            delay: delay as u64,
-        }
-    }
-
-    fn parts(self) -> Parts {
-        Parts {
-            mills: self.mills(),
-            delay: self.delay(),
-        }
+        Parts::from((mills, delay))
     }
 }

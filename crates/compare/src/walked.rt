@@ -1,8 +1,9 @@
 use super::networks::Link;
 use super::parts::{Parts, Plain};
+use book::making::MOST_EXCHANGES;
 
 // Where a walk ends, and its length.
-#[derive(Clone, Copy)]
+#[derive(Clone, Copy, PartialEq, Eq)]
 pub struct Walk {
     pub end: u16,
     pub length: Parts,
@@ -15,37 +16,32 @@ pub fn start_of(links: &[Link], trunks: &[u16]) -> Option<u16> {
     Some(link.from)
 }
 
-// The first `count` of these trunks as a walk from `start`: none if one is not open, or does not start where the one before ends.
-pub fn walked<L: Plain>(links: &[Link], start: u16, trunks: &[u16], count: usize) -> Option<Walk> {
-    let mut walk = Walk {
+// These trunks as a walk from `start`: none if one is not open, or does not start where the one before ends.
+pub fn walked<L: Plain>(links: &[Link], start: u16, trunks: &[u16]) -> Option<Walk> {
+    let at_start = Walk {
         end: start,
         length: Parts::ZERO,
     };
-    for t in trunks.iter().take(count) {
+    trunks.iter().try_fold(at_start, |walk, t| {
         let link = links.get(*t as usize).copied()?;
-        if !link.open || link.from != walk.end {
-            return None;
-        }
-        walk = Walk {
+        (link.open && link.from == walk.end).then_some(Walk {
             end: link.to,
-            length: walk.length.plus(link.parts::<L>()),
-        };
-    }
-    Some(walk)
+            length: walk.length + link.parts::<L>(),
+        })
+    })
 }
 
-// Whether no two of the first `count` trunks leave the same exchange.
-pub fn apart(links: &[Link], trunks: &[u16], count: usize) -> bool {
-    let mut left = [false; 256];
-    for t in trunks.iter().take(count) {
-        let Some(link) = links.get(*t as usize).copied() else {
+// Whether no two of these trunks leave the same exchange.
+pub fn apart(links: &[Link], trunks: &[u16]) -> bool {
+    let mut left = [false; MOST_EXCHANGES];
+    for t in trunks {
+        let Some(link) = links.get(*t as usize) else {
             return false;
         };
-        let from = link.from as usize;
-        if from >= left.len() || left[from] {
-            return false;
+        match left.get_mut(link.from as usize) {
+            Some(seen) if !*seen => *seen = true,
+            _ => return false,
         }
-        left[from] = true;
     }
     true
 }

@@ -2,7 +2,7 @@ use book::Book;
 use book::outcome::Ending;
 use book::refusal::Refusal;
 use lengths::charge::Charge;
-use replay::{Answer, Read};
+use replay::{Answer, Line, Read};
 use std::io;
 
 // What a call came to, where it answers nothing but that it is done.
@@ -18,20 +18,15 @@ pub fn show_refusal(rt: &impl Print, what: &str, refusal: Refusal) -> io::Result
     println!(rt; "{what}: refused with {number}")
 }
 
-fn show_line(
-    rt: &impl Print,
-    x: u16,
-    charge: Option<Charge>,
-    arrival: Option<u16>,
-) -> io::Result<()> {
-    match charge {
+fn show_line(rt: &impl Print, x: usize, line: Line<Charge>) -> io::Result<()> {
+    match line.charge {
         None => print!(rt; "  {x} -")?,
         Some(label) => {
             let mills = label.mills();
             print!(rt; "  {x} {mills}")?
         }
     }
-    match arrival {
+    match line.arrival {
         None => println!(rt; " -"),
         Some(t) => println!(rt; " {t}"),
     }
@@ -39,38 +34,49 @@ fn show_line(
 
 // A line for each exchange: its charge, and the trunk by which a call arrives.
 pub fn show_charges(rt: &impl Print, book: &Book, lengths: &[Charge]) -> io::Result<()> {
-    for x in 0..4u16 {
+    for x in 0..4 {
         match (book.charge(lengths, x), book.arrival(lengths, x)) {
-            (Ok(charge), Ok(arrival)) => show_line(rt, x, charge, arrival)?,
+            (Ok(charge), Ok(arrival)) => show_line(rt, x as usize, Line { charge, arrival })?,
             _ => println!(rt; "  {x} cannot be read")?,
         }
     }
     Ok(())
 }
 
-// The first `count` trunks of a list.
-pub fn show_trunks(rt: &impl Print, what: &str, trunks: &[u16], count: usize) -> io::Result<()> {
-    print!(rt; "  {what}")?;
-    for t in trunks.iter().take(count) {
+fn show_trunks(rt: &impl Print, what: &str, trunks: &[u16]) -> io::Result<()> {
+    print!(rt; "  {what}:")?;
+    for t in trunks {
         print!(rt; " {t}")?;
     }
     println!(rt; "")
 }
 
+// What a reading wrote into a list: so many trunks at its front, or a refusal.
+fn show_written(
+    rt: &impl Print,
+    what: &str,
+    count: Result<usize, Refusal>,
+    trunks: &[u16],
+) -> io::Result<()> {
+    match count {
+        Ok(count) => show_trunks(rt, what, trunks.get(..count).unwrap_or(trunks)),
+        Err(refusal) => {
+            print!(rt; "  ")?;
+            show_refusal(rt, what, refusal)
+        }
+    }
+}
+
 fn show_route(rt: &impl Print, book: &Book, lengths: &[Charge]) -> io::Result<()> {
     let mut trunks = [0u16; 4];
-    match book.route(lengths, 3, &mut trunks) {
-        Ok(count) => show_trunks(rt, "route to 3:", &trunks, count),
-        Err(refusal) => show_refusal(rt, "  route to 3", refusal),
-    }
+    let count = book.route(lengths, 3, &mut trunks);
+    show_written(rt, "route to 3", count, &trunks)
 }
 
 fn show_loop(rt: &impl Print, book: &Book, lengths: &[Charge]) -> io::Result<()> {
     let mut trunks = [0u16; 4];
-    match book.loop_trunks(lengths, &mut trunks) {
-        Ok(count) => show_trunks(rt, "loop:", &trunks, count),
-        Err(refusal) => show_refusal(rt, "  loop", refusal),
-    }
+    let count = book.loop_trunks(lengths, &mut trunks);
+    show_written(rt, "loop", count, &trunks)
 }
 
 // How a run ended, and what can be read of it.
@@ -96,18 +102,18 @@ pub fn show_run(
     }
 }
 
-fn show_answer(rt: &impl Print, answer: Answer) -> io::Result<()> {
+fn show_answer(rt: &impl Print, answer: Result<Answer, Refusal>) -> io::Result<()> {
     match answer {
-        Answer::Refused(refusal) => show_refusal(rt, "  answer", refusal),
-        Answer::Skipped => println!(rt; "  skipped"),
-        Answer::Laid(t) => println!(rt; "  trunk {t}"),
-        Answer::Done => println!(rt; "  done"),
-        Answer::Passed(progress) => println!(rt; "  {progress:?}"),
-        Answer::Finished(ending) => println!(rt; "  finished: {ending:?}"),
+        Err(refusal) => show_refusal(rt, "  answer", refusal),
+        Ok(Answer::Skipped) => println!(rt; "  skipped"),
+        Ok(Answer::Laid(t)) => println!(rt; "  trunk {t}"),
+        Ok(Answer::Done) => println!(rt; "  done"),
+        Ok(Answer::Passed(progress)) => println!(rt; "  {progress:?}"),
+        Ok(Answer::Finished(ending)) => println!(rt; "  finished: {ending:?}"),
     }
 }
 
-pub fn show_answers(rt: &impl Print, answers: &[Answer]) -> io::Result<()> {
+pub fn show_answers(rt: &impl Print, answers: &[Result<Answer, Refusal>]) -> io::Result<()> {
     println!(rt; "a list of calls")?;
     for answer in answers {
         show_answer(rt, *answer)?;
@@ -118,19 +124,16 @@ pub fn show_answers(rt: &impl Print, answers: &[Answer]) -> io::Result<()> {
 // What a list of calls came to.
 pub fn show_read(
     rt: &impl Print,
-    read: Read,
-    charges: &[Option<Charge>],
-    arrivals: &[Option<u16>],
+    read: Option<Read>,
+    lines: &[Line<Charge>],
     looped: &[u16],
 ) -> io::Result<()> {
     match read {
-        Read::Nothing => println!(rt; "  no run is finished"),
-        Read::Loop(count) => show_trunks(rt, "loop:", looped, count),
-        Read::Sheet => {
-            let mut x = 0u16;
-            for (charge, arrival) in charges.iter().zip(arrivals.iter()) {
-                show_line(rt, x, *charge, *arrival)?;
-                x = x.saturating_add(1);
+        None => println!(rt; "  no run is finished"),
+        Some(Read::Loop(count)) => show_written(rt, "loop", Ok(count), looped),
+        Some(Read::Sheet) => {
+            for (x, line) in lines.iter().enumerate() {
+                show_line(rt, x, *line)?;
             }
             Ok(())
         }

@@ -4,16 +4,15 @@ ghost use Rattle.replay.specs.Making.{Bears};
 
 use super::PLACES;
 use super::showing::{show_answers, show_done, show_read, show_refusal, show_run};
-use book::outcome::{Ending, Progress};
-use book::refusal::{Refusal, Refused};
+use book::refusal::Refused;
 use book::{Book, Space, Ticket};
 use lengths::charge::Charge;
 use orders::queue_order::Queue;
 use orders::topological_order::Topological;
 use replay::replaying::replay;
-use replay::{Answer, Call, Read, Replayed};
-use running::passing::ScanOrder;
+use replay::{Answer, Call, Line, Read, Replayed};
 use std::io;
+use whole_run::running_out::run_whole;
 
 // The example: from, to and charge of each trunk.
 const TRUNKS: [(u16, u16, i32); 5] = [(0, 2, 7), (0, 1, 4), (1, 2, -2), (2, 3, 3), (3, 1, 0)];
@@ -38,39 +37,17 @@ fn give_back(book: &mut Book, lengths: &[Charge], ticket: Ticket)
     }
 }
 
-// Runs from exchange 0 until the run is over, with a pass for each exchange at most, and finishes.
-fn run<O: ScanOrder<Charge>>(
-    book: &mut Book,
-    lengths: &mut [Charge],
-    order: &O,
-) -> Result<Option<Ending>, Refusal> {
-    let ticket = book.begin(lengths, 0)?;
-    for _ in 0..4 {
-        match book.pass(lengths, order, &ticket) {
-            Ok(Progress::Working { .. }) => {}
-            _ => break,
-        }
-    }
-    match book.finish(lengths, ticket) {
-        Ok(ending) => Ok(Some(ending)),
-        Err(Refused { refusal: _, back }) => {
-            give_back(book, lengths, back);
-            Ok(None)
-        }
-    }
-}
-
 pub fn both_orders(rt: &impl Print, book: &mut Book, lengths: &mut [Charge]) -> io::Result<()> {
-    let ending = run(book, lengths, &Topological);
+    let ending = run_whole(book, lengths, &Topological, 0);
     show_run(rt, "topological order", book, lengths, ending)?;
-    let ending = run(book, lengths, &Queue);
+    let ending = run_whole(book, lengths, &Queue, 0);
     show_run(rt, "queue order", book, lengths, ending)
 }
 
 // Trunk 1 is barred, made cheaper and opened again; then trunk 4 is given too large a credit.
 pub fn changes(rt: &impl Print, book: &mut Book, lengths: &mut [Charge]) -> io::Result<()> {
     show_done(rt, "trunk 1 barred", book.bar(lengths, 1))?;
-    let ending = run(book, lengths, &Topological);
+    let ending = run_whole(book, lengths, &Topological, 0);
     show_run(rt, "without it", book, lengths, ending)?;
     show_done(
         rt,
@@ -78,14 +55,14 @@ pub fn changes(rt: &impl Print, book: &mut Book, lengths: &mut [Charge]) -> io::
         book.reprice(lengths, 1, Charge::of(-3)),
     )?;
     show_done(rt, "trunk 1 opened", book.unbar(lengths, 1))?;
-    let ending = run(book, lengths, &Topological);
+    let ending = run_whole(book, lengths, &Topological, 0);
     show_run(rt, "with it", book, lengths, ending)?;
     show_done(
         rt,
         "trunk 4 at -2",
         book.reprice(lengths, 4, Charge::of(-2)),
     )?;
-    let ending = run(book, lengths, &Topological);
+    let ending = run_whole(book, lengths, &Topological, 0);
     show_run(rt, "then", book, lengths, ending)?;
     show_done(rt, "trunk 9 barred", book.bar(lengths, 9))
 }
@@ -146,9 +123,8 @@ pub fn from_a_list(rt: &(impl Print + AllocGlobal)) -> anyhow::Result<()> {
         Call::Finish,
     ];
     let mut lengths = [Charge::of(0); PLACES];
-    let mut answers = [Answer::Skipped; CALLS];
-    let mut charges = [None; 3];
-    let mut arrivals = [None; 3];
+    let mut answers = [Ok(Answer::Skipped); CALLS];
+    let mut lines = [Line::BLANK; 3];
     let mut looped = [0u16; 3];
     let space = Space::take(rt.alloc())?;
     match replay(
@@ -159,22 +135,21 @@ pub fn from_a_list(rt: &(impl Print + AllocGlobal)) -> anyhow::Result<()> {
         &Queue,
         &calls,
         &mut answers,
-        &mut charges,
-        &mut arrivals,
+        &mut lines,
         &mut looped,
     ) {
         Err(Refused { refusal, back: _ }) => show_refusal(rt, "the list", refusal)?,
         Ok(replayed) => {
             let (_, read) = close(replayed, &lengths);
             show_answers(rt, &answers)?;
-            show_read(rt, read, &charges, &arrivals, &looped)?;
+            show_read(rt, read, &lines, &looped)?;
         }
     }
     Ok(())
 }
 
 // Gives back the ticket of a run that the calls left open, and hands the book on with what was read.
-pub(crate) fn close(replayed: Replayed, lengths: &[Charge]) -> (Book, Read)
+pub(crate) fn close(replayed: Replayed, lengths: &[Charge]) -> (Book, Option<Read>)
     requires { Bears replayed.ticket replayed.book (length lengths.now) }
 {
     let Replayed {

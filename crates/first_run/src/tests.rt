@@ -1,28 +1,17 @@
 use super::stories::close;
 use book::making::fit;
-use book::outcome::Fitness;
 use book::refusal::{Refusal, Refused};
 use book::{Book, Space};
 use lengths::charge::Charge;
 use orders::queue_order::Queue;
 use replay::replaying::replay;
-use replay::{Answer, Call};
+use replay::{Answer, Call, Line};
 use std::alloc::Global;
 use std::test::Fail;
 
-// The number of the refusal that a call was answered with; 0 if it was not refused.
-fn number(answer: Answer) -> u16 {
-    match answer {
-        Answer::Refused(refusal) => refusal.number(),
-        _ => 0,
-    }
-}
-
-fn refused<T: Drop>(res: Result<T, Refusal>) -> u16 {
-    match res {
-        Ok(_) => 0,
-        Err(refusal) => refusal.number(),
-    }
+// The number of the refusal, if there is one.
+fn refused<T: Drop>(res: Result<T, Refusal>) -> Option<u16> {
+    res.err().map(Refusal::number)
 }
 
 // Makes the calls on a new book of `n` exchanges, and hands the book on.
@@ -31,10 +20,9 @@ fn made(
     n: usize,
     lengths: &mut [Charge],
     calls: &[Call<Charge>],
-    answers: &mut [Answer],
+    answers: &mut [Result<Answer, Refusal>],
 ) -> Result<Book, Fail> {
-    let mut charges = [None; 300];
-    let mut arrivals = [None; 300];
+    let mut lines = [Line::BLANK; 300];
     let mut looped = [0u16; 300];
     let space = Space::take(heap)?;
     match replay(
@@ -45,8 +33,7 @@ fn made(
         &Queue,
         calls,
         answers,
-        &mut charges,
-        &mut arrivals,
+        &mut lines,
         &mut looped,
     ) {
         Err(
@@ -74,21 +61,21 @@ fn lay(from: u16, to: u16, mills: i32) -> Call<Charge> {
 #[test]
 fn what_can_make_a_book(rt: HostRuntime) {
     let lengths = [Charge::of(0); 256];
-    assert_eq!(rt; fit(0, &lengths), Fitness::BadSize);
-    assert_eq!(rt; fit(257, &lengths), Fitness::BadSize);
-    assert_eq!(rt; fit(256, &lengths), Fitness::Fit);
-    assert_eq!(rt; fit(256, &lengths[0..255]), Fitness::ShortList);
+    assert_eq!(rt; fit(0, &lengths), Err(Refusal::BadSize));
+    assert_eq!(rt; fit(257, &lengths), Err(Refusal::BadSize));
+    assert_eq!(rt; fit(256, &lengths), Ok(()));
+    assert_eq!(rt; fit(256, &lengths[0..255]), Err(Refusal::ShortList));
 }
 
 #[test]
 fn a_void_book_refuses_all(rt: HostRuntime) -> Result<(), Fail> {
     let mut lengths = [Charge::of(0); 2];
     let calls = [lay(9, 9, DEAR), Call::Begin { home: 9 }];
-    let mut answers = [Answer::Skipped; 2];
+    let mut answers = [Ok(Answer::Skipped); 2];
     let book = made(rt.alloc(), 257, &mut lengths, &calls, &mut answers)?;
-    assert_eq!(rt; number(answers[0]), 3);
-    assert_eq!(rt; number(answers[1]), 3);
-    assert_eq!(rt; refused(book.charge(&lengths, 0)), 3);
+    assert_eq!(rt; refused(answers[0]), Some(3));
+    assert_eq!(rt; refused(answers[1]), Some(3));
+    assert_eq!(rt; refused(book.charge(&lengths, 0)), Some(3));
     Ok(())
 }
 
@@ -104,14 +91,14 @@ fn a_lay_is_refused_in_order(rt: HostRuntime) -> Result<(), Fail> {
         Call::Begin { home: 0 },
         lay(2, 0, DEAR),
     ];
-    let mut answers = [Answer::Skipped; 7];
+    let mut answers = [Ok(Answer::Skipped); 7];
     let _ = made(rt.alloc(), 2, &mut lengths, &calls, &mut answers)?;
-    assert_eq!(rt; number(answers[0]), 5);
-    assert_eq!(rt; number(answers[1]), 6);
-    assert_eq!(rt; number(answers[2]), 0);
-    assert_eq!(rt; number(answers[3]), 6);
-    assert_eq!(rt; number(answers[4]), 7);
-    assert_eq!(rt; number(answers[6]), 4);
+    assert_eq!(rt; refused(answers[0]), Some(5));
+    assert_eq!(rt; refused(answers[1]), Some(6));
+    assert_eq!(rt; refused(answers[2]), None);
+    assert_eq!(rt; refused(answers[3]), Some(6));
+    assert_eq!(rt; refused(answers[4]), Some(7));
+    assert_eq!(rt; refused(answers[6]), Some(4));
     Ok(())
 }
 
@@ -137,15 +124,15 @@ fn changes_and_steps_are_refused_in_order(rt: HostRuntime) -> Result<(), Fail> {
         Call::Pass,
         Call::Pass,
     ];
-    let mut answers = [Answer::Skipped; 11];
+    let mut answers = [Ok(Answer::Skipped); 11];
     let _ = made(rt.alloc(), 2, &mut lengths, &calls, &mut answers)?;
-    assert_eq!(rt; number(answers[0]), 8);
-    assert_eq!(rt; number(answers[2]), 6);
-    assert_eq!(rt; number(answers[3]), 8);
-    assert_eq!(rt; number(answers[4]), 5);
-    assert_eq!(rt; number(answers[6]), 4);
-    assert_eq!(rt; number(answers[7]), 12);
-    assert_eq!(rt; number(answers[10]), 11);
+    assert_eq!(rt; refused(answers[0]), Some(8));
+    assert_eq!(rt; refused(answers[2]), Some(6));
+    assert_eq!(rt; refused(answers[3]), Some(8));
+    assert_eq!(rt; refused(answers[4]), Some(5));
+    assert_eq!(rt; refused(answers[6]), Some(4));
+    assert_eq!(rt; refused(answers[7]), Some(12));
+    assert_eq!(rt; refused(answers[10]), Some(11));
     Ok(())
 }
 
@@ -159,17 +146,17 @@ fn a_settled_run_is_read(rt: HostRuntime) -> Result<(), Fail> {
         Call::Pass,
         Call::Finish,
     ];
-    let mut answers = [Answer::Skipped; 5];
+    let mut answers = [Ok(Answer::Skipped); 5];
     let book = made(rt.alloc(), 3, &mut lengths, &calls, &mut answers)?;
     let mut none: [u16; 0] = [];
-    assert_eq!(rt; refused(book.charge(&lengths[0..3], 9)), 2);
-    assert_eq!(rt; refused(book.charge(&lengths, 9)), 5);
-    assert_eq!(rt; refused(book.route(&lengths, 9, &mut none)), 5);
-    assert_eq!(rt; refused(book.route(&lengths, 2, &mut none)), 16);
-    assert_eq!(rt; refused(book.route(&lengths, 1, &mut none)), 17);
-    assert_eq!(rt; refused(book.loop_trunks(&lengths, &mut none)), 15);
+    assert_eq!(rt; refused(book.charge(&lengths[0..3], 9)), Some(2));
+    assert_eq!(rt; refused(book.charge(&lengths, 9)), Some(5));
+    assert_eq!(rt; refused(book.route(&lengths, 9, &mut none)), Some(5));
+    assert_eq!(rt; refused(book.route(&lengths, 2, &mut none)), Some(16));
+    assert_eq!(rt; refused(book.route(&lengths, 1, &mut none)), Some(17));
+    assert_eq!(rt; refused(book.loop_trunks(&lengths, &mut none)), Some(15));
     let mut trunks = [7u16; 2];
-    assert_eq!(rt; refused(book.route(&lengths, 1, &mut trunks)), 0);
+    assert_eq!(rt; refused(book.route(&lengths, 1, &mut trunks)), None);
     assert_eq!(rt; trunks[0], 0);
     assert_eq!(rt; trunks[1], 7);
     Ok(())
@@ -184,14 +171,14 @@ fn a_loop_is_read(rt: HostRuntime) -> Result<(), Fail> {
         Call::Pass,
         Call::Finish,
     ];
-    let mut answers = [Answer::Skipped; 4];
+    let mut answers = [Ok(Answer::Skipped); 4];
     let book = made(rt.alloc(), 1, &mut lengths, &calls, &mut answers)?;
     let mut none: [u16; 0] = [];
     let mut trunks = [7u16; 1];
-    assert_eq!(rt; refused(book.charge(&lengths, 9)), 14);
-    assert_eq!(rt; refused(book.arrival(&lengths, 9)), 14);
-    assert_eq!(rt; refused(book.loop_trunks(&lengths, &mut none)), 17);
-    assert_eq!(rt; refused(book.loop_trunks(&lengths, &mut trunks)), 0);
+    assert_eq!(rt; refused(book.charge(&lengths, 9)), Some(14));
+    assert_eq!(rt; refused(book.arrival(&lengths, 9)), Some(14));
+    assert_eq!(rt; refused(book.loop_trunks(&lengths, &mut none)), Some(17));
+    assert_eq!(rt; refused(book.loop_trunks(&lengths, &mut trunks)), None);
     assert_eq!(rt; trunks[0], 0);
     Ok(())
 }

@@ -1,11 +1,12 @@
 -- Calls made and answers written, one by one.
-use Rattle.std.proofs.Common.{◌≡◌, ℕ, ◌+◌, ◌<◌, List, [], ◌∷◌, ◌++◌, map, length, get_or, take, drop, set, sym, ap, ◌∙◌, subst, arith}
+use Rattle.std.proofs.Common.{◌≡◌, ℕ, ◌+◌, ◌<◌, List, [], ◌∷◌, ◌++◌, map, length, get_or, take, drop, set, Result, sym, ap, ◌∙◌, subst, arith}
 use Rattle.std.proofs.lemmas.List.{take_more_set, map_more, map_push, drop-drop, drop-set-lt}
 use Rattle.routing.specs.declared.Trunk.{Trunk}
 use Rattle.routing.specs.Kind.{Kind}
 use Rattle.routing.specs.Rules.{Run}
 use Rattle.routing.specs.History.{State}
 use Rattle.routing.specs.Calls as rules
+use Rattle.book.specs.declared.refusal.Refusal.{Refusal}
 use Rattle.book.specs.Orders.{ByOrder}
 use Rattle.replay.specs.declared.Call.{Call}
 use Rattle.replay.specs.declared.Answer.{Answer}
@@ -14,11 +15,11 @@ use Rattle.replay.specs.Replaying.{MakesAll}
 
 module _ {L : Type 0} (K : Kind L) (rule : ℕ → List Trunk → Run L → List ℕ → Type 0) (number n : ℕ) (s : State L) (calls : List (Call L)) where
   -- the first i calls were made
-  abbrev pub SoFar : ℕ → List Answer → State L → Type 0
+  abbrev pub SoFar : ℕ → List (Result Answer Refusal) → State L → Type 0
   SoFar i xs s₁ = MakesAll K (ByOrder K rule n) s (map (call_of number) (take i calls)) (map answer_of (take i xs)) s₁
 
   -- the next call was made on a book whose number and size are said to be k and m
-  pub so_on : (i : ℕ) (xs : List Answer) (s₁ s₂ : State L) (call : Call L) (x : Answer) (k m : ℕ) → i < length calls → i < length xs → call ≡ get_or calls i call → k ≡ number → m ≡ n
+  pub so_on : (i : ℕ) (xs : List (Result Answer Refusal)) (s₁ s₂ : State L) (call : Call L) (x : Result Answer Refusal) (k m : ℕ) → i < length calls → i < length xs → call ≡ get_or calls i call → k ≡ number → m ≡ n
       → SoFar i xs s₁ → Makes K (ByOrder K rule m) s₁ (call_of k call) (answer_of x) s₂ → SoFar (i + 1) (set xs i x) s₂
   so_on i xs s₁ s₂ call x k m below inside is ek em before makes =
       let made : Makes K (ByOrder K rule n) s₁ (call_of number call) (answer_of x) s₂ =
@@ -31,5 +32,5 @@ module _ {L : Type 0} (K : Kind L) (rule : ℕ → List Trunk → Run L → List
       (subst (λ (zs : List rules.Answer). MakesAll K (ByOrder K rule n) s (map (call_of number) (take i calls) ++ (call_of number call ∷ [])) zs s₂) (sym ys) (MakesAll.more before made))
 
 -- what stands behind a place that is written
-pub behind : (xs ys : List Answer) (i : ℕ) (x : Answer) → drop i xs ≡ drop i ys → drop (i + 1) (set xs i x) ≡ drop (i + 1) ys
+pub behind : (xs ys : List (Result Answer Refusal)) (i : ℕ) (x : Result Answer Refusal) → drop i xs ≡ drop i ys → drop (i + 1) (set xs i x) ≡ drop (i + 1) ys
 behind xs ys i x e = drop-set-lt (i + 1) xs i x (omega arith) ∙ sym (drop-drop 1 i xs) ∙ ap (drop 1) e ∙ drop-drop 1 i ys

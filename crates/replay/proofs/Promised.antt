@@ -1,5 +1,6 @@
 -- From calls made one by one to the whole promise.
-use Rattle.std.proofs.Common.{◌≡◌, ℕ, suc, ◌+◌, ◌<◌, ◌≤◌, Bool, true, false, cond, not, ◌||◌, eqb, ltb, leb, List, [], ◌∷◌, ◌++◌, map, length, get_or, take, drop, Some, None, vec_items, Option, sym, refl, ap, ◌∙◌, subst, ⊎_elim, arith}
+use Rattle.std.proofs.Common.{◌≡◌, ℕ, suc, ◌+◌, ◌<◌, ◌≤◌, Bool, true, false, cond, not, ◌||◌, eqb, ltb, leb, List, [], ◌∷◌, ◌++◌, map, length, get_or, take, drop, Some, None, vec_items, Option, Result, sym, refl, ap, ◌∙◌, subst, ⊎_elim, arith}
+use Rattle.std.proofs.Math.ListN.{get_or-map}
 use Rattle.std.proofs.lemmas.List.{take_at, drop_at}
 use Rattle.std.proofs.lemmas.Bool.{both_ways, cases_Bool, cond-true, cond-false, not_from_true, not_from_false, le-ltb, lt-leb, or_from, ne_eqb}
 use Rattle.routing.specs.declared.Trunk.{Trunk}
@@ -26,14 +27,16 @@ use Rattle.running.specs.Work.{run_of}
 use Rattle.book.specs.declared.Phase.{Phase as Stage}
 use Rattle.book.specs.declared.Phase.TheVariants.{Idle}
 use Rattle.book.specs.declared.Book.{Book}
+use Rattle.book.specs.declared.refusal.Refusal.{Refusal}
 use Rattle.book.specs.Orders.{ByOrder}
 use Rattle.book.specs.State.{phase_of, state_of}
 use Rattle.replay.specs.declared.Call.{Call as Code}
 use Rattle.replay.specs.declared.Answer.{Answer as CodeAnswer}
+use Rattle.replay.specs.declared.Line.{Line}
 use Rattle.replay.specs.declared.Replayed.{Replayed}
 use Rattle.replay.specs.declared.Read.{Read}
 use Rattle.replay.specs.Making.{Bears, Makes, answer_of, call_of}
-use Rattle.replay.specs.Reading.{Filled, ReadsOut}
+use Rattle.replay.specs.Reading.{Filled, ReadsOut, blank}
 use Rattle.replay.specs.Replaying.{MakesAll, Tells, Leaves, Replays}
 
 module _ {L : Type 0} (K : Kind L) (number n : ℕ) (first : List L) (answers : ℕ → List Trunk → Run L → List ℕ → Type 0) where
@@ -217,9 +220,17 @@ module _ {L : Type 0} (K : Kind L) (number n : ℕ) (first : List L) (answers : 
       pub arrival_told : arrival s x ≡ told (arrival_of r x)
       arrival_told = reads_own (λ q. settled_at s x q []) (λ q. arrival_of q x) ∙ unless_free (settled_at s x r []) _ allowed_at
 
-    pub tables : (charges : List (Option L)) (arrivals : List (Option ℕ)) → ((x : ℕ) → x < n → charge K s x ≡ told (get_or charges x None)) → ((x : ℕ) → x < n → arrival s x ≡ told (get_or arrivals x None))
-        → Cheapest K (tariff_of h) n home (λ x. get_or charges x None) (λ x. get_or arrivals x None)
-    tables charges arrivals cs as' = reads.tables charges arrivals cs as'
+    -- the charges and the arrivals of the lines, each as a list of its own
+    pub tables : (lines : List (Line L)) → ((x : ℕ) → x < n → charge K s x ≡ told (get_or lines x blank).charge) → ((x : ℕ) → x < n → arrival s x ≡ told (get_or lines x blank).arrival)
+        → Cheapest K (tariff_of h) n home (λ x. (get_or lines x blank).charge) (λ x. (get_or lines x blank).arrival)
+    tables lines are_charges are_arrivals =
+        let charges : List (Option L) = map (λ (l : Line L). l.charge) lines in
+        let arrivals : List (Option ℕ) = map (λ (l : Line L). l.arrival) lines in
+        let charge_at : (x : ℕ) → get_or charges x None ≡ (get_or lines x blank).charge = λ x. get_or-map (λ (l : Line L). l.charge) lines x blank in
+        let arrival_at : (x : ℕ) → get_or arrivals x None ≡ (get_or lines x blank).arrival = λ x. get_or-map (λ (l : Line L). l.arrival) lines x blank in
+        subst (λ (f : ℕ → Option L). Cheapest K (tariff_of h) n home f (λ x. (get_or lines x blank).arrival)) (λ i x. charge_at x i)
+        (subst (λ (f : ℕ → Option ℕ). Cheapest K (tariff_of h) n home (λ x. get_or charges x None) f) (λ i x. arrival_at x i)
+        (reads.tables charges arrivals (λ x low. are_charges x low ∙ ap (λ (o : Option L). told o) (sym (charge_at x))) (λ x low. are_arrivals x low ∙ ap (λ (o : Option ℕ). told o) (sym (arrival_at x)))))
 
     pub loop_names : (room : ℕ) (cs : List ℕ) → loop s room ≡ told cs → Named K (tariff_of h) home cs
     loop_names room cs e = reads.loop_named room cs e
@@ -244,7 +255,7 @@ module _ {L : Type 0} (K : Kind L) (number n : ℕ) (first : List L) (answers : 
       go (running home r) f false false e = let z : ◌≡◌ {A = ℕ} 13 15 = cc in absurd (omega arith)
       go (standing home r) f false false e = (home, r, f)
 
-  module _ (h : History L) (ok : Accepted K number n first R h) (read : Read) (charges charges' : List (Option L)) (arrivals arrivals' : List (Option ℕ)) (looped looped' : List ℕ) where
+  module _ (h : History L) (ok : Accepted K number n first R h) (read : Option Read) (lines lines' : List (Line L)) (looped looped' : List ℕ) where
     -- the loop reading, taken apart
     abbrev loop_checks : Run L → List (Bool × ℕ)
     loop_checks q = (not (is_loop q.verdict), 15) ∷ no_room (length looped) (loop_of (book h).size (book h).trunks q)
@@ -253,18 +264,18 @@ module _ {L : Type 0} (K : Kind L) (number n : ℕ) (first : List L) (answers : 
     loop_value q = loop_of (book h).size (book h).trunks q
 
     -- the readings were taken of m exchanges, which are all of them where the book is fit
-    pub resized : (m : ℕ) → (n ≤ 256 → m ≡ n) → ReadsOut K m (book h) read charges charges' arrivals arrivals' looped looped' → ReadsOut K n (book h) read charges charges' arrivals arrivals' looped looped'
-    resized m same (ReadsOut.a_loop reads is now_is same_c same_a) = ReadsOut.a_loop reads is now_is same_c same_a
-    resized m same (ReadsOut.a_sheet reads is now_is filled_c filled_a) =
+    pub resized : (m : ℕ) → (n ≤ 256 → m ≡ n) → ReadsOut K m (book h) read lines lines' looped looped' → ReadsOut K n (book h) read lines lines' looped looped'
+    resized m sized (ReadsOut.a_loop reads is now_is same) = ReadsOut.a_loop reads is now_is same
+    resized m sized (ReadsOut.a_sheet reads is now_is filled) =
         let f = stands_if h loop_checks loop_value reads in
         let few : (book h).size ≤ 256 = (standing_fits h ok f.0 f.1 f.2).1 in
-        let sized : (book h).size ≡ n = (same_book K n number first h).1 in
-        let e : m ≡ n = same (omega arith) in
-        ReadsOut.a_sheet reads is now_is (subst (λ (k : ℕ). Filled k (charge K (book h)) charges charges') e filled_c) (subst (λ (k : ℕ). Filled k (arrival (book h)) arrivals arrivals') e filled_a)
-    resized m same (ReadsOut.nothing reads other is now_is same_c same_a) = ReadsOut.nothing reads other is now_is same_c same_a
+        let long : (book h).size ≡ n = (same_book K n number first h).1 in
+        let e : m ≡ n = sized (omega arith) in
+        ReadsOut.a_sheet reads is now_is (subst (λ (k : ℕ). Filled K k (book h) lines lines') e filled)
+    resized m sized (ReadsOut.nothing reads other is now_is same) = ReadsOut.nothing reads other is now_is same
 
-    pub tells_so : n ≤ length looped → ReadsOut K n (book h) read charges charges' arrivals arrivals' looped looped' → Tells K n (tariff_of h) (book h) read charges' arrivals' looped'
-    tells_so enough (ReadsOut.a_loop {cs = cs} reads is now_is same_c same_a) =
+    pub tells_so : n ≤ length looped → ReadsOut K n (book h) read lines lines' looped looped' → Tells K n (tariff_of h) (book h) read lines' looped'
+    tells_so enough (ReadsOut.a_loop {cs = cs} reads is now_is same) =
         let f = read_finished (book h) loop_checks loop_value cs reads in
         let home = f.0 in
         let r = f.1 in
@@ -273,19 +284,19 @@ module _ {L : Type 0} (K : Kind L) (number n : ℕ) (first : List L) (answers : 
         ⊎_elim (λ e. e) (λ (e : is_loop r.verdict ≡ false). absurd (told_not_denied (loop (book h) (length looped)) cs 15 reads (loop_settled h ok home r stands (length looped) e))) (cases_Bool (is_loop r.verdict)) in
         Tells.a_loop {home = home} {r = r} {cs = cs} (length looped) stands is reads (ap (take (length cs)) now_is ∙ take_at cs (drop (length cs) looped) (length cs) refl)
         (loop_names h ok home r stands (length looped) cs reads) (unbounded_so h ok home r stands found_so)
-    tells_so enough (ReadsOut.a_sheet reads is now_is filled_c filled_a) =
+    tells_so enough (ReadsOut.a_sheet reads is now_is filled) =
         let f = stands_if h loop_checks loop_value reads in
         let home = f.0 in
         let r = f.1 in
         let stands = f.2 in
         let calm : is_loop r.verdict ≡ false =
         ⊎_elim (λ (e : is_loop r.verdict ≡ true). absurd (told_not_denied (loop (book h) (length looped)) _ 15 (loop_told h ok home r stands (length looped) e enough) reads)) (λ e. e) (cases_Bool (is_loop r.verdict)) in
-        let cs : (x : ℕ) → x < n → charge K (book h) x ≡ told (get_or charges' x None) =
-        λ x low. let t = charge_told h ok home r stands calm x low in t ∙ ap (λ (o : Option L). told o) (sym (filled_c.each x _ low t)) in
-        let ws : (x : ℕ) → x < n → arrival (book h) x ≡ told (get_or arrivals' x None) =
-        λ x low. let t = arrival_told h ok home r stands calm x low in t ∙ ap (λ (o : Option ℕ). told o) (sym (filled_a.each x _ low t)) in
-        Tells.sheet {home = home} {r = r} stands (settled_so h ok home r stands calm) is cs ws (tables h ok home r stands charges' arrivals' cs ws)
-    tells_so enough (ReadsOut.nothing {k = k} reads other is now_is same_c same_a) =
+        let cs : (x : ℕ) → x < n → charge K (book h) x ≡ told (get_or lines' x blank).charge =
+        λ x low. let t = charge_told h ok home r stands calm x low in t ∙ ap (λ (o : Option L). told o) (sym (filled.charges x _ low t)) in
+        let ws : (x : ℕ) → x < n → arrival (book h) x ≡ told (get_or lines' x blank).arrival =
+        λ x low. let t = arrival_told h ok home r stands calm x low in t ∙ ap (λ (o : Option ℕ). told o) (sym (filled.arrivals x _ low t)) in
+        Tells.sheet {home = home} {r = r} stands (settled_so h ok home r stands calm) is cs ws (tables h ok home r stands lines' cs ws)
+    tells_so enough (ReadsOut.nothing {k = k} reads other is now_is same) =
         Tells.nothing
         (λ home r stands.
         ⊎_elim
@@ -294,13 +305,13 @@ module _ {L : Type 0} (K : Kind L) (number n : ℕ) (first : List L) (answers : 
         (cases_Bool (is_loop r.verdict)))
         is
 
-    pub leaves_so : ReadsOut K n (book h) read charges charges' arrivals arrivals' looped looped' → Leaves n read charges charges' arrivals arrivals' looped looped'
-    leaves_so (ReadsOut.a_loop {cs = cs} _ is now_is same_c same_a) =
-        subst (λ (d : Read). Leaves n d charges charges' arrivals arrivals' looped looped') (sym is) (same_c, same_a, ap (drop (length cs)) now_is ∙ drop_at cs (drop (length cs) looped) (length cs) refl)
-    leaves_so (ReadsOut.a_sheet _ is now_is filled_c filled_a) =
-        subst (λ (d : Read). Leaves n d charges charges' arrivals arrivals' looped looped') (sym is) ((filled_c.long, filled_c.kept), (filled_a.long, filled_a.kept), now_is)
-    leaves_so (ReadsOut.nothing _ other is now_is same_c same_a) =
-        subst (λ (d : Read). Leaves n d charges charges' arrivals arrivals' looped looped') (sym is) (same_c, same_a, now_is)
+    pub leaves_so : ReadsOut K n (book h) read lines lines' looped looped' → Leaves n read lines lines' looped looped'
+    leaves_so (ReadsOut.a_loop {cs = cs} _ is now_is same) =
+        subst (λ (d : Option Read). Leaves n d lines lines' looped looped') (sym is) (same, ap (drop (length cs)) now_is ∙ drop_at cs (drop (length cs) looped) (length cs) refl)
+    leaves_so (ReadsOut.a_sheet _ is now_is filled) =
+        subst (λ (d : Option Read). Leaves n d lines lines' looped looped') (sym is) ((filled.long, filled.kept), now_is)
+    leaves_so (ReadsOut.nothing _ other is now_is same) =
+        subst (λ (d : Option Read). Leaves n d lines lines' looped looped') (sym is) (same, now_is)
 
   -- a new book
   pub new_made : (b : Book) → b.number ≡ number → b.n ≡ n → vec_items b.trunks ≡ [] → b.phase ≡ Idle → state_of b first ≡ book []
@@ -319,28 +330,26 @@ module _ {L : Type 0} (K : Kind L) (number n : ℕ) (first : List L) (answers : 
       (subst (λ (q : State L). MakesAll K (ByOrder K answers b.n) q (map (call_of b.number) cs) xs s) (new_made b name size none rests) m))
 
   -- the whole promise
-  pub replays_so : (cs : List (Code L)) (xs : List CodeAnswer) (r : Replayed) (last : List L) (m : ℕ) (charges charges' : List (Option L)) (arrivals arrivals' : List (Option ℕ)) (looped looped' : List ℕ)
+  pub replays_so : (cs : List (Code L)) (xs : List (Result CodeAnswer Refusal)) (r : Replayed) (last : List L) (m : ℕ) (lines lines' : List (Line L)) (looped looped' : List ℕ)
       → MakesAll K R (book []) (map (call_of number) cs) (map answer_of xs) (state_of r.book last) → Bears r.ticket r.book (length last) → n ≤ length looped → (n ≤ 256 → m ≡ n)
-      → ReadsOut K m (state_of r.book last) r.read charges charges' arrivals arrivals' looped looped'
-      → Replays K answers number n first last cs xs r charges' arrivals' looped' × Leaves n r.read charges charges' arrivals arrivals' looped looped'
-  replays_so cs xs r last m charges charges' arrivals arrivals' ring ring' makes bears enough same out =
+      → ReadsOut K m (state_of r.book last) r.read lines lines' looped looped'
+      → Replays K answers number n first last cs xs r lines' looped' × Leaves n r.read lines lines' looped looped'
+  replays_so cs xs r last m lines lines' ring ring' makes bears enough same out =
       let p = played_all makes in
       let h = p.history in
-      let reads : ReadsOut K n (book h) r.read charges charges' arrivals arrivals' ring ring' =
-      resized h p.ok r.read charges charges' arrivals arrivals' ring ring' m same (subst (λ (q : State L). ReadsOut K m q r.read charges charges' arrivals arrivals' ring ring') p.made out) in (
+      let reads : ReadsOut K n (book h) r.read lines lines' ring ring' =
+      resized h p.ok r.read lines lines' ring ring' m same (subst (λ (q : State L). ReadsOut K m q r.read lines lines' ring ring') p.made out) in (
         record {
           history = h;
           plays = p.plays;
           made = p.made;
           ticket = bears;
           right = subst (λ (q : State L). Right K n h q) (sym p.made) (promise K number n first R means h p.ok);
-          tells = subst (λ (q : State L). Tells K n (tariff_of h) q r.read charges' arrivals' ring') (sym p.made) (tells_so h p.ok r.read charges charges' arrivals arrivals' ring ring' enough reads);
+          tells = subst (λ (q : State L). Tells K n (tariff_of h) q r.read lines' ring') (sym p.made) (tells_so h p.ok r.read lines lines' ring ring' enough reads);
         },
-        leaves_so h p.ok r.read charges charges' arrivals arrivals' ring ring' reads,
+        leaves_so h p.ok r.read lines lines' ring ring' reads,
       )
 
--- the four lists are long enough
-pub long_enough : (a b c d e f : ℕ) → b ≤ a → d ≤ c → d ≤ e → d ≤ f → true ≡ not (ltb a b || (ltb c d || (ltb e d || ltb f d)))
-long_enough a b c d e f p q r t =
-    sym (not_from_false (ltb a b || (ltb c d || (ltb e d || ltb f d)))
-    (or_from (ltb a b) _ (le-ltb a b p) (or_from (ltb c d) _ (le-ltb c d q) (or_from (ltb e d) (ltb f d) (le-ltb e d r) (le-ltb f d t)))))
+-- the three lists are long enough
+pub long_enough : (a b c d e : ℕ) → b ≤ a → d ≤ c → d ≤ e → true ≡ not (ltb a b || (ltb c d || ltb e d))
+long_enough a b c d e p q r = sym (not_from_false (ltb a b || (ltb c d || ltb e d)) (or_from (ltb a b) _ (le-ltb a b p) (or_from (ltb c d) (ltb e d) (le-ltb c d q) (le-ltb e d r))))

@@ -1,22 +1,22 @@
 -- One call of a list, as the rules see it, and the ticket that is held between two calls.
-use Rattle.std.specs.Prelude.{◌≡◌, ℕ, true, false, List, Some, None, Option}
+use Rattle.std.specs.Prelude.{◌≡◌, ℕ, true, false, List, Some, None, Option, Result}
 use Rattle.routing.specs.declared.Trunk.{Trunk}
 use Rattle.routing.specs.Kind.{Kind}
 use Rattle.routing.specs.Rules.{Run}
 use Rattle.routing.specs.History.{State}
 use Rattle.routing.specs.Refusals.{is_running}
-use Rattle.routing.specs.Calls.{lay, reprice, bar, unbar, begin, do_pass, finish, abandon, refused, skipped, numbered, done, needs_ticket}
+use Rattle.routing.specs.Calls.{lay, reprice, bar, unbar, begin, do_pass, finish, abandon, skipped, numbered, done, needs_ticket}
 use Rattle.routing.specs.Calls as rules
 use Rattle.routing.specs.Does.{Does}
 use Rattle.book.specs.declared.Book.{Book}
 use Rattle.book.specs.declared.Ticket.{Ticket}
-use Rattle.book.specs.Answers.{shows, shows_end}
-use Rattle.book.specs.Refusal.{number_of}
+use Rattle.book.specs.declared.refusal.Refusal.{Refusal}
+use Rattle.book.specs.Answers.{answer_by, shows, shows_end}
 use Rattle.book.specs.State.{Owed, runs}
 use Rattle.replay.specs.declared.Call.{Call}
 use Rattle.replay.specs.declared.Call.TheVariants.{Lay, Reprice, Bar, Unbar, Begin, Pass, Finish, Abandon}
 use Rattle.replay.specs.declared.Answer.{Answer}
-use Rattle.replay.specs.declared.Answer.TheVariants.{Refused, Skipped, Laid, Done, Passed, Finished}
+use Rattle.replay.specs.declared.Answer.TheVariants.{Skipped, Laid, Done, Passed, Finished}
 
 -- a call on the book of this number; a ticket that is held bears it
 abbrev pub call_of : {L : Type 0} → ℕ → Call L → rules.Call L
@@ -29,14 +29,17 @@ call_of number Pass = do_pass number
 call_of number Finish = finish number
 call_of number Abandon = abandon number
 
--- an answer, without the types of the code
-abbrev pub answer_of : Answer → rules.Answer
-answer_of (Refused k) = refused (number_of k)
-answer_of Skipped = skipped
-answer_of (Laid t) = numbered t
-answer_of Done = done
-answer_of (Passed p) = shows p
-answer_of (Finished e) = shows_end e
+-- what an accepted call answered, without the types of the code
+abbrev pub accepted_of : Answer → rules.Answer
+accepted_of Skipped = skipped
+accepted_of (Laid t) = numbered t
+accepted_of Done = done
+accepted_of (Passed p) = shows p
+accepted_of (Finished e) = shows_end e
+
+-- what a call was answered
+abbrev pub answer_of : Result Answer Refusal → rules.Answer
+answer_of r = answer_by accepted_of r
 
 -- a ticket is held just while a run is open; it is the run's own, and over a length list of this size it can be given back
 abbrev pub Bears : Option Ticket → Book → ℕ → Type 0

@@ -1,7 +1,6 @@
-ghost use Rattle.std.specs.Prelude.{◌≡◌, length};
-ghost use Rattle.routing.specs.Calls.{abandon as abandon_call, begin as begin_call, do_pass, done as is_done, finish as finish_call, numbered};
+ghost use Rattle.std.specs.Prelude.{◌≡◌, length, Some, None};
+ghost use Rattle.routing.specs.Calls.{abandon as abandon_call, begin as begin_call, do_pass, finish as finish_call};
 ghost use Rattle.routing.specs.Orders.{Meaning};
-ghost use Rattle.book.specs.Answers.{answer_by};
 ghost use Rattle.book.specs.Orders.{ByOrder};
 ghost use Rattle.book.specs.State.{state_of};
 ghost use Rattle.replay.specs.Making.{Bears, Makes, SameName, answer_of, call_of};
@@ -12,21 +11,14 @@ use book::{Book, Ticket};
 use routing::Length;
 use running::passing::ScanOrder;
 
-fn laid(res: Result<u16, Refusal>) -> Answer
-    ensures { answer_of result ≡ answer_by (λ t. numbered t) res }
+// Puts a ticket where none is held.
+fn hold(held: &mut Option<Ticket>, ticket: Ticket)
+    requires { held.old ≡ None }
+    ensures { held.new ≡ Some ticket }
 {
-    match res {
-        Ok(t) => Answer::Laid(t),
-        Err(refusal) => Answer::Refused(refusal),
-    }
-}
-
-fn done(res: Result<(), Refusal>) -> Answer
-    ensures { answer_of result ≡ answer_by (λ _. is_done) res }
-{
-    match res {
-        Ok(()) => Answer::Done,
-        Err(refusal) => Answer::Refused(refusal),
+    match held.replace(ticket) {
+        None => {}
+        Some(_) => unreachable(),
     }
 }
 
@@ -34,96 +26,99 @@ fn done(res: Result<(), Refusal>) -> Answer
 fn begin<L: Length>(
     book: &mut Book,
     lengths: &mut [L],
+    held: &mut Option<Ticket>,
     home: u16,
-    held: Option<Ticket>,
-) -> (Answer, Option<Ticket>)
-    requires { Bears held book.old (length lengths.old) }
-    ensures makes { Makes L.Length.kind (Meaning L.Length.kind book.old.n) (state_of book.old lengths.old) (begin_call home) (answer_of result.0) (state_of book.new lengths.new) }
-    ensures bears { Bears result.1 book.new (length lengths.old) }
+) -> Result<Answer, Refusal>
+    requires { Bears held.old book.old (length lengths.old) }
+    ensures makes { Makes L.Length.kind (Meaning L.Length.kind book.old.n) (state_of book.old lengths.old) (begin_call home) (answer_of result) (state_of book.new lengths.new) }
+    ensures bears { Bears held.new book.new (length lengths.old) }
 {
-    match (book.begin(lengths, home), held) {
-        (Ok(ticket), None) => (Answer::Done, Some(ticket)),
-        (Ok(_), Some(_)) => unreachable(),
-        (Err(refusal), held) => (Answer::Refused(refusal), held),
-    }
+    let ticket = book.begin(lengths, home)?;
+    hold(held, ticket);
+    Ok(Answer::Done)
 }
 
 fn pass<L: Length, O: ScanOrder<L>>(
     book: &mut Book,
     lengths: &mut [L],
+    held: &Option<Ticket>,
     order: &O,
-    held: Option<Ticket>,
-) -> (Answer, Option<Ticket>)
-    requires { Bears held book.old (length lengths.old) }
-    ensures makes { Makes L.Length.kind (ByOrder L.Length.kind O.ScanOrder.answers book.old.n) (state_of book.old lengths.old) (do_pass book.old.number) (answer_of result.0) (state_of book.new lengths.new) }
-    ensures bears { Bears result.1 book.new (length lengths.old) }
+) -> Result<Answer, Refusal>
+    requires { Bears held.now book.old (length lengths.old) }
+    ensures makes { Makes L.Length.kind (ByOrder L.Length.kind O.ScanOrder.answers book.old.n) (state_of book.old lengths.old) (do_pass book.old.number) (answer_of result) (state_of book.new lengths.new) }
+    ensures bears { Bears held.now book.new (length lengths.old) }
 {
     let Some(ticket) = held else {
-        return (Answer::Skipped, None);
+        return Ok(Answer::Skipped);
     };
-    let answer = match book.pass(lengths, order, &ticket) {
-        Ok(progress) => Answer::Passed(progress),
-        Err(refusal) => Answer::Refused(refusal),
-    };
-    (answer, Some(ticket))
+    book.pass(lengths, order, ticket).map(Answer::Passed)
 }
 
 fn finish<L: Length>(
     book: &mut Book,
     lengths: &[L],
-    held: Option<Ticket>,
-) -> (Answer, Option<Ticket>)
-    requires { Bears held book.old (length lengths.now) }
-    ensures makes { Makes L.Length.kind (Meaning L.Length.kind book.old.n) (state_of book.old lengths.now) (finish_call book.old.number) (answer_of result.0) (state_of book.new lengths.now) }
-    ensures bears { Bears result.1 book.new (length lengths.now) }
+    held: &mut Option<Ticket>,
+) -> Result<Answer, Refusal>
+    requires { Bears held.old book.old (length lengths.now) }
+    ensures makes { Makes L.Length.kind (Meaning L.Length.kind book.old.n) (state_of book.old lengths.now) (finish_call book.old.number) (answer_of result) (state_of book.new lengths.now) }
+    ensures bears { Bears held.new book.new (length lengths.now) }
 {
-    let Some(ticket) = held else {
-        return (Answer::Skipped, None);
+    let Some(ticket) = held.take() else {
+        return Ok(Answer::Skipped);
     };
     match book.finish(lengths, ticket) {
-        Ok(ending) => (Answer::Finished(ending), None),
-        Err(Refused { refusal, back }) => (Answer::Refused(refusal), Some(back)),
+        Ok(ending) => Ok(Answer::Finished(ending)),
+        Err(Refused { refusal, back }) => {
+            hold(held, back);
+            Err(refusal)
+        }
     }
 }
 
 fn abandon<L: Length>(
     book: &mut Book,
     lengths: &[L],
-    held: Option<Ticket>,
-) -> (Answer, Option<Ticket>)
-    requires { Bears held book.old (length lengths.now) }
-    ensures makes { Makes L.Length.kind (Meaning L.Length.kind book.old.n) (state_of book.old lengths.now) (abandon_call book.old.number) (answer_of result.0) (state_of book.new lengths.now) }
-    ensures bears { Bears result.1 book.new (length lengths.now) }
+    held: &mut Option<Ticket>,
+) -> Result<Answer, Refusal>
+    requires { Bears held.old book.old (length lengths.now) }
+    ensures makes { Makes L.Length.kind (Meaning L.Length.kind book.old.n) (state_of book.old lengths.now) (abandon_call book.old.number) (answer_of result) (state_of book.new lengths.now) }
+    ensures bears { Bears held.new book.new (length lengths.now) }
 {
-    let Some(ticket) = held else {
-        return (Answer::Skipped, None);
+    let Some(ticket) = held.take() else {
+        return Ok(Answer::Skipped);
     };
     match book.abandon(lengths, ticket) {
-        Ok(()) => (Answer::Done, None),
-        Err(Refused { refusal, back }) => (Answer::Refused(refusal), Some(back)),
+        Ok(()) => Ok(Answer::Done),
+        Err(Refused { refusal, back }) => {
+            hold(held, back);
+            Err(refusal)
+        }
     }
 }
 
-// Makes a call, with the ticket that is held, and answers the ticket that is held then.
+// Makes a call, with the ticket that is held. A struct of the book, the lent list and the ticket was tried: the proof
+// does not know what the list holds after a loop over it.
 pub(crate) fn make<L: Length, O: ScanOrder<L>>(
     book: &mut Book,
     lengths: &mut [L],
+    held: &mut Option<Ticket>,
     order: &O,
-    held: Option<Ticket>,
     call: Call<L>,
-) -> (Answer, Option<Ticket>)
-    requires { Bears held book.old (length lengths.old) }
-    ensures makes { Makes L.Length.kind (ByOrder L.Length.kind O.ScanOrder.answers book.old.n) (state_of book.old lengths.old) (call_of book.old.number call) (answer_of result.0) (state_of book.new lengths.new) }
-    ensures bears { Bears result.1 book.new (length lengths.old) }
+) -> Result<Answer, Refusal>
+    requires { Bears held.old book.old (length lengths.old) }
+    ensures makes { Makes L.Length.kind (ByOrder L.Length.kind O.ScanOrder.answers book.old.n) (state_of book.old lengths.old) (call_of book.old.number call) (answer_of result) (state_of book.new lengths.new) }
+    ensures bears { Bears held.new book.new (length lengths.old) }
     ensures same { SameName book.old book.new }
 {
     match call {
-        Call::Lay { from, to, length } => (laid(book.lay(lengths, from, to, length)), held),
-        Call::Reprice { trunk, length } => (done(book.reprice(lengths, trunk, length)), held),
-        Call::Bar { trunk } => (done(book.bar(lengths, trunk)), held),
-        Call::Unbar { trunk } => (done(book.unbar(lengths, trunk)), held),
-        Call::Begin { home } => begin(book, lengths, home, held),
-        Call::Pass => pass(book, lengths, order, held),
+        Call::Lay { from, to, length } => book.lay(lengths, from, to, length).map(Answer::Laid),
+        Call::Reprice { trunk, length } => {
+            book.reprice(lengths, trunk, length).map(|()| Answer::Done)
+        }
+        Call::Bar { trunk } => book.bar(lengths, trunk).map(|()| Answer::Done),
+        Call::Unbar { trunk } => book.unbar(lengths, trunk).map(|()| Answer::Done),
+        Call::Begin { home } => begin(book, lengths, held, home),
+        Call::Pass => pass(book, lengths, held, order),
         Call::Finish => finish(book, lengths, held),
         Call::Abandon => abandon(book, lengths, held),
     }

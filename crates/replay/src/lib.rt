@@ -6,7 +6,6 @@ pub mod reading_out;
 pub mod replaying;
 
 use book::outcome::{Ending, Progress};
-use book::refusal::Refusal;
 use book::{Book, Ticket};
 
 // A call on a book. Those of a run show the ticket that the last accepted begin gave.
@@ -22,10 +21,9 @@ pub enum Call<L> {
     Abandon,
 }
 
-// What a call was answered. One that shows a ticket is skipped while there is none.
-#[derive(Clone, Copy)]
+// What an accepted call answered. One that shows a ticket is skipped while there is none.
+#[derive(Clone, Copy, PartialEq, Eq, Debug)]
 pub enum Answer {
-    Refused(Refusal),
     Skipped,
     Laid(u16),
     Done,
@@ -33,17 +31,31 @@ pub enum Answer {
     Finished(Ending),
 }
 
-// What was read when all calls were made: nothing, each charge and arrival, or a loop of so many trunks.
+// What the sheet of a settled run says of an exchange: its charge, and the trunk by which a call arrives.
+#[derive(Clone, Copy)]
+pub struct Line<L> {
+    pub charge: Option<L>,
+    pub arrival: Option<u16>,
+}
+
+impl<L> Line<L> {
+    // What a list of lines may hold before it is lent.
+    pub const BLANK: Line<L> = Line {
+        charge: None,
+        arrival: None,
+    };
+}
+
+// What was read of the finished run: a line for each exchange, or a loop of so many trunks.
 #[derive(Clone, Copy)]
 pub enum Read {
-    Nothing,
     Sheet,
     Loop(usize),
 }
 
-// The book after the calls, with the ticket of the run that is still open.
+// The book after the calls, with the ticket of the run that is still open. Where no run is finished, nothing is read.
 pub struct Replayed {
     pub book: Book,
     pub ticket: Option<Ticket>,
-    pub read: Read,
+    pub read: Option<Read>,
 }

@@ -1,58 +1,43 @@
-ghost use Rattle.std.specs.Prelude.{◌≡◌, ◌<◌, ◌≤◌, length};
-ghost use Rattle.routing.specs.Readings.{arrival, charge};
+ghost use Rattle.std.specs.Prelude.{◌≡◌, ◌≤◌, length};
 ghost use Rattle.book.specs.State.{state_of};
 ghost use Rattle.replay.specs.Reading.{Filled, ReadsOut};
 
-use super::Read;
+use super::{Line, Read};
 use book::Book;
 use book::refusal::Refusal;
 use routing::Length;
 
-// Reads the charge of each exchange below `n`.
-fn read_charges<L: Length>(book: &Book, lengths: &[L], n: u16, charges: &mut [Option<L>])
-    requires { n ≤ length charges.old }
-    ensures { Filled n (charge L.Length.kind (state_of book.now lengths.now)) charges.old charges.new }
+// Reads the charge and the arriving trunk of each exchange that has a line.
+fn read_lines<L: Length>(book: &Book, lengths: &[L], lines: &mut [Line<L>])
+    requires { length lines.old ≤ 256 }
+    ensures { Filled L.Length.kind (length lines.old) (state_of book.now lengths.now) lines.old lines.new }
 {
-    for x in 0..n {
-        if let Ok(charge) = book.charge(lengths, x) {
-            charges[x as usize] = charge;
-        }
+    for (x, line) in lines.iter_mut().enumerate() {
+        line.charge = book.charge(lengths, x as u16).unwrap_or(line.charge);
+        line.arrival = book.arrival(lengths, x as u16).unwrap_or(line.arrival);
     }
 }
 
-// Reads the arriving trunk of each exchange below `n`.
-fn read_arrivals<L: Length>(book: &Book, lengths: &[L], n: u16, arrivals: &mut [Option<u16>])
-    requires { n ≤ length arrivals.old }
-    ensures { Filled n (arrival (state_of book.now lengths.now)) arrivals.old arrivals.new }
-{
-    for x in 0..n {
-        if let Ok(arrival) = book.arrival(lengths, x) {
-            arrivals[x as usize] = arrival;
-        }
-    }
-}
-
-// Reads the finished run, if there is one: its loop, or each charge and arrival.
+// Reads the finished run, if there is one: its loop, or the first `n` lines.
 pub(crate) fn read_out<L: Length>(
     book: &Book,
     lengths: &[L],
-    n: u16,
-    charges: &mut [Option<L>],
-    arrivals: &mut [Option<u16>],
+    n: usize,
+    lines: &mut [Line<L>],
     looped: &mut [u16],
-) -> Read
-    requires { (n ≤ length charges.old) × (n ≤ length arrivals.old) }
-    ensures { ReadsOut L.Length.kind n (state_of book.now lengths.now) result charges.old charges.new arrivals.old arrivals.new looped.old looped.new }
+) -> Option<Read>
+    requires { (n ≤ 256) × (n ≤ length lines.old) }
+    ensures { ReadsOut L.Length.kind n (state_of book.now lengths.now) result lines.old lines.new looped.old looped.new }
 {
     match book.loop_trunks(lengths, looped) {
-        Ok(count) => Read::Loop(count),
+        Ok(count) => Some(Read::Loop(count)),
+        // An inner match: in one pattern, what `Err(_)` leaves out is not known to the proof.
         Err(refusal) => match refusal {
             Refusal::RunIsSettled => {
-                read_charges(book, lengths, n, charges);
-                read_arrivals(book, lengths, n, arrivals);
-                Read::Sheet
+                read_lines(book, lengths, &mut lines[..n]);
+                Some(Read::Sheet)
             }
-            _ => Read::Nothing,
+            _ => None,
         },
     }
 }

@@ -7,7 +7,7 @@ ghost use Rattle.replay.specs.Replaying.{Leaves, MakesAll, Replays, Unchanged};
 
 use super::calling::make;
 use super::reading_out::read_out;
-use super::{Answer, Call, Replayed};
+use super::{Answer, Call, Line, Replayed};
 use book::making::MOST_EXCHANGES;
 use book::refusal::{Refusal, Refused};
 use book::{Book, Space, Ticket};
@@ -20,7 +20,7 @@ fn make_all<L: Length, O: ScanOrder<L>>(
     lengths: &mut [L],
     order: &O,
     calls: &[Call<L>],
-    answers: &mut [Answer],
+    answers: &mut [Result<Answer, Refusal>],
 ) -> Option<Ticket>
     requires { (runs book.old.phase ≡ false) × (length calls.now ≤ length answers.old) }
     ensures makes { MakesAll L.Length.kind (ByOrder L.Length.kind O.ScanOrder.answers book.old.n) (state_of book.old lengths.old) (map (call_of book.old.number) calls.now) (map answer_of (take (length calls.now) answers.new)) (state_of book.new lengths.new) }
@@ -28,10 +28,8 @@ fn make_all<L: Length, O: ScanOrder<L>>(
     ensures kept { drop (length calls.now) answers.new ≡ drop (length calls.now) answers.old }
 {
     let mut held = None;
-    for i in 0..calls.len() {
-        let (answer, now_held) = make(book, lengths, order, held, calls[i]);
-        answers[i] = answer;
-        held = now_held;
+    for (i, call) in calls.iter().enumerate() {
+        answers[i] = make(book, lengths, &mut held, order, *call);
     }
     held
 }
@@ -45,17 +43,16 @@ pub fn replay<L: Length, O: ScanOrder<L>>(
     lengths: &mut [L],
     order: &O,
     calls: &[Call<L>],
-    answers: &mut [Answer],
-    charges: &mut [Option<L>],
-    arrivals: &mut [Option<u16>],
+    answers: &mut [Result<Answer, Refusal>],
+    lines: &mut [Line<L>],
     looped: &mut [u16],
 ) -> Result<Replayed, Refused<Space>>
-    ensures when { is_ok result ≡ not (nat_lt (length answers.old) (length calls.now) || (nat_lt (length charges.old) n || (nat_lt (length arrivals.old) n || nat_lt (length looped.old) n))) }
-    ensures refused { IfErr result (λ e. (e.refusal ≡ NoRoom) × (e.back ≡ space) × Unchanged lengths.old lengths.new answers.old answers.new charges.old charges.new arrivals.old arrivals.new looped.old looped.new) }
-    ensures replays { IfOk result (λ m. Replays L.Length.kind O.ScanOrder.answers number n lengths.old lengths.new calls.now (take (length calls.now) answers.new) m charges.new arrivals.new looped.new) }
-    ensures leaves { IfOk result (λ m. (drop (length calls.now) answers.new ≡ drop (length calls.now) answers.old) × Leaves n m.read charges.old charges.new arrivals.old arrivals.new looped.old looped.new) }
+    ensures when { is_ok result ≡ not (nat_lt (length answers.old) (length calls.now) || (nat_lt (length lines.old) n || nat_lt (length looped.old) n)) }
+    ensures refused { IfErr result (λ e. (e.refusal ≡ NoRoom) × (e.back ≡ space) × Unchanged lengths.old lengths.new answers.old answers.new lines.old lines.new looped.old looped.new) }
+    ensures replays { IfOk result (λ m. Replays L.Length.kind O.ScanOrder.answers number n lengths.old lengths.new calls.now (take (length calls.now) answers.new) m lines.new looped.new) }
+    ensures leaves { IfOk result (λ m. (drop (length calls.now) answers.new ≡ drop (length calls.now) answers.old) × Leaves n m.read lines.old lines.new looped.old looped.new) }
 {
-    if answers.len() < calls.len() || charges.len() < n || arrivals.len() < n || looped.len() < n {
+    if answers.len() < calls.len() || lines.len() < n || looped.len() < n {
         return Err(Refused {
             refusal: Refusal::NoRoom,
             back: space,
@@ -63,13 +60,6 @@ pub fn replay<L: Length, O: ScanOrder<L>>(
     }
     let mut book = Book::new(space, number, n);
     let ticket = make_all(&mut book, lengths, order, calls, answers);
-    let read = read_out(
-        &book,
-        lengths,
-        n.min(MOST_EXCHANGES) as u16,
-        charges,
-        arrivals,
-        looped,
-    );
+    let read = read_out(&book, lengths, n.min(MOST_EXCHANGES), lines, looped);
     Ok(Replayed { book, ticket, read })
 }

@@ -4,7 +4,6 @@
 mod worked;
 
 use book::making::fit;
-use book::refusal::Refusal;
 use book::{Book, Space};
 use lengths::charge::Charge;
 use orders::topological_order::Topological;
@@ -17,9 +16,11 @@ const TRUNKS: [(u16, u16, i32); 5] = [(0, 2, 7), (0, 1, 4), (1, 2, -2), (2, 3, 3
 // How many exchanges make a book.
 fn show_fit(rt: &impl Print) -> std::io::Result<()> {
     let lengths = [Charge::of(0); 257];
-    for n in 256..258usize {
-        let fitness = fit(n, &lengths);
-        println!(rt; "{n} exchanges: {fitness:?}")?;
+    for n in 256..258 {
+        match fit(n, &lengths) {
+            Ok(()) => println!(rt; "{n} exchanges: Fit")?,
+            Err(refusal) => println!(rt; "{n} exchanges: {refusal:?}")?,
+        }
     }
     Ok(())
 }
@@ -30,14 +31,15 @@ fn lay_all(book: &mut Book, lengths: &mut [Charge]) {
     }
 }
 
-// The route to exchange 3, into a list of this size.
+// The route to exchange 3, into this list.
 fn show_route(
     rt: &impl Print,
-    route: Result<usize, Refusal>,
-    trunks: &[u16],
+    book: &Book,
+    lengths: &[Charge],
+    trunks: &mut [u16],
 ) -> std::io::Result<()> {
     let size = trunks.len();
-    match route {
+    match book.route(lengths, 3, trunks) {
         Ok(count) => println!(rt; "a list of {size}: {count} trunks, {trunks:?}"),
         Err(refusal) => {
             let number = refusal.number();
@@ -53,10 +55,8 @@ fn run(rt: &HostRuntime) -> anyhow::Result<()> {
     let mut book = Book::new(Space::take(rt.alloc())?, 1, 4);
     lay_all(&mut book, &mut lengths);
     let _ = run_whole(&mut book, &mut lengths, &Topological, 0);
-    let mut three = [0u16; 3];
-    show_route(rt, book.route(&lengths, 3, &mut three), &three)?;
-    let mut two = [0u16; 2];
-    show_route(rt, book.route(&lengths, 3, &mut two), &two)?;
+    show_route(rt, &book, &lengths, &mut [0; 3])?;
+    show_route(rt, &book, &lengths, &mut [0; 2])?;
     Ok(())
 }
 

@@ -1,5 +1,5 @@
 -- A whole run of a book that accepted calls made.
-use Rattle.std.proofs.Common.{◌≡◌, ℕ, suc, ◌<◌, ◌≤◌, true, false, eqb, ltb, List, ◌∷◌, Some, None, Ok, Err, Result, sym, refl, ap, ◌∙◌, subst, ⊎_elim, arith}
+use Rattle.std.proofs.Common.{◌≡◌, ℕ, suc, ◌<◌, ◌≤◌, true, false, eqb, ltb, List, ◌∷◌, Some, None, Ok, Err, Option, Result, sym, refl, ap, ◌∙◌, subst, ⊎_elim, arith}
 use Rattle.std.proofs.lemmas.Bool.{both_ways, cases_lt, ltb-false, not-false, or_parts}
 use Rattle.routing.specs.declared.Trunk.{Trunk}
 use Rattle.routing.specs.declared.Verdict.{Verdict}
@@ -15,12 +15,11 @@ use Rattle.routing.proofs.Histories.{same_book}
 use Rattle.routing.proofs.Playing.{accepted_more}
 use Rattle.routing.proofs.Refused.{none_of}
 use Rattle.routing.proofs.Main.{promise}
+use Rattle.book.specs.declared.outcome.Ending.{Ending}
 use Rattle.book.specs.declared.refusal.Refusal.{Refusal}
 use Rattle.book.specs.Orders.{ByOrder}
 use Rattle.book.specs.Refusal.{number_of}
 use Rattle.replay.proofs.Makings.{never_done}
-use Rattle.whole_run.specs.declared.Ended.{Ended}
-use Rattle.whole_run.specs.declared.Ended.TheVariants.{GivenUp}
 use Rattle.whole_run.specs.Whole.{Carried, EndsRight, Passes, PassedOut, RunsOut, Whole}
 
 module _ {L : Type 0} (K : Kind L) (n : ℕ) where
@@ -128,8 +127,8 @@ module _ {L : Type 0} (K : Kind L) (n : ℕ) where
         ⊎_elim (λ over. both_ways (is_working q.phase) over works) (λ all. omega arith) out.enough
 
     -- a whole run of the book that h makes: it is not given up, and leaves an accepted history
-    whole_of : (h : History L) → Accepted K number n first S h → (home : ℕ) (r : Result Ended Refusal) (s' : State L) → Whole K R (book h) home r s'
-        → (r ≡ Ok GivenUp → ⊥) × Carried K number n first S h s'
+    whole_of : (h : History L) → Accepted K number n first S h → (home : ℕ) (r : Result (Option Ending) Refusal) (s' : State L) → Whole K R (book h) home r s'
+        → (r ≡ Ok None → ⊥) × Carried K number n first S h s'
     whole_of h ok home r s' (Whole.refuses why is same) = (
       λ e. let z : ◌≡◌ {A = ℕ} 0 1 = cc in omega arith,
       record { history = h; accepted = ok; made = same; same_tariff = refl; same_count = refl; right = subst (Right K n h) (sym same) (is_right h ok) },
@@ -142,7 +141,7 @@ module _ {L : Type 0} (K : Kind L) (n : ℕ) where
 
 -- a whole run in an order that keeps its meaning ends right
 pub ends_right : {L : Type 0} (K : Kind L) (R : List Trunk → Run L → List ℕ → Type 0) (s : State L) → ((ts : List Trunk) (r : Run L) (a : List ℕ) → R ts r a → Meaning K s.size ts r a)
-    → (home : ℕ) (r : Result Ended Refusal) (s' : State L) → Whole K R s home r s' → EndsRight K s r s'
+    → (home : ℕ) (r : Result (Option Ending) Refusal) (s' : State L) → Whole K R s home r s' → EndsRight K s r s'
 ends_right K R s means home r s' w number n first h ok made =
     let size : s.size ≡ n = ap (λ q. q.size) made ∙ (same_book K n number first h).1 in
     whole_of K n number first (Meaning K n) (λ ts r a _ m. m) R (λ ts r a x. subst (λ (k : ℕ). Meaning K k ts r a) size (means ts r a x)) h ok home r s'
@@ -153,11 +152,11 @@ module _ {L : Type 0} (K : Kind L) (answers : ℕ → List Trunk → Run L → L
   abbrev By : List Trunk → Run L → List ℕ → Type 0
   By = ByOrder K answers s.size
 
-  pub record Promised (r : Result Ended Refusal) (s' : State L) : Type 0 where
+  pub record Promised (r : Result (Option Ending) Refusal) (s' : State L) : Type 0 where
     pub whole : Whole K By s home r s'
     pub ends : EndsRight K s r s'
 
-  promised : (r : Result Ended Refusal) (s' : State L) → Whole K By s home r s' → Promised r s'
+  promised : (r : Result (Option Ending) Refusal) (s' : State L) → Whole K By s home r s' → Promised r s'
   promised r s' w = record { whole = w; ends = ends_right K By s (λ ts q a m. m.means) home r s' w }
 
   pub refused_whole : (k : Refusal) (s' : State L) → Does K (Meaning K s.size) s (begin home) (refused (number_of k)) s' → Promised (Err k) s'
@@ -168,7 +167,7 @@ module _ {L : Type 0} (K : Kind L) (answers : ℕ → List Trunk → Run L → L
       same_number e = cc
   refused_whole k s' (Does.accepts e none is becomes answer) = absurd (let z : ◌≡◌ {A = ℕ} 0 1 = cc in omega arith)
 
-  pub made_whole : (s₁ q : State L) (e : Ended) (s' : State L) → Does K (Meaning K s.size) s (begin home) done s₁ → PassedOut K (ByOrder K answers s₁.size) s₁ q → RunsOut K q e s' → Promised (Ok e) s'
+  pub made_whole : (s₁ q : State L) (e : Option Ending) (s' : State L) → Does K (Meaning K s.size) s (begin home) done s₁ → PassedOut K (ByOrder K answers s₁.size) s₁ q → RunsOut K q e s' → Promised (Ok e) s'
   made_whole s₁ q e s' (Does.refuses {k = j} why answer same) out ends = absurd (never_done j answer)
   made_whole s₁ q e s' (Does.accepts x none is becomes answer) out ends =
       let begun : s₁ ≡ stepped K (began home) s = becomes ∙ ap (λ y. applied K y s) is in

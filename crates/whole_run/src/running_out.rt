@@ -3,9 +3,8 @@ ghost use Rattle.book.specs.Orders.{ByOrder};
 ghost use Rattle.book.specs.State.{Owed, state_of};
 ghost use Rattle.whole_run.specs.Whole.{EndsRight, PassedOut, RunsOut, Whole, still_works};
 
-use super::Ended;
 use book::making::MOST_EXCHANGES;
-use book::outcome::Progress;
+use book::outcome::{Ending, Progress};
 use book::refusal::{Refusal, Refused};
 use book::{Book, Ticket};
 use routing::Length;
@@ -15,12 +14,7 @@ use running::passing::ScanOrder;
 fn goes_on(passed: Result<Progress, Refusal>) -> bool
     ensures { result ≡ still_works passed }
 {
-    match passed {
-        Ok(Progress::Working { .. }) => true,
-        Ok(Progress::Settled { .. }) => false,
-        Ok(Progress::Loop { .. }) => false,
-        Err(_) => false,
-    }
+    matches!(passed, Ok(Progress::Working { .. }))
 }
 
 // Passes until the run is over, as many as a book may have exchanges at most.
@@ -41,27 +35,29 @@ fn pass_until_over<L: Length, O: ScanOrder<L>>(
     }
 }
 
-// Takes the ticket of the open run: finishes the run if it is over, else gives it up.
-fn close<L: Length>(book: &mut Book, lengths: &[L], ticket: Ticket) -> Ended
+// Takes the ticket of the open run: finishes the run if it is over, else gives it up and answers none.
+fn close<L: Length>(book: &mut Book, lengths: &[L], ticket: Ticket) -> Option<Ending>
     requires { Owed ticket book.old (length lengths.now) }
     ensures { RunsOut L.Length.kind (state_of book.old lengths.now) result (state_of book.new lengths.now) }
 {
     match book.finish(lengths, ticket) {
-        Ok(ending) => Ended::Finished(ending),
+        Ok(ending) => Some(ending),
         Err(Refused { refusal: _, back }) => match book.abandon(lengths, back) {
-            Ok(()) => Ended::GivenUp,
+            Ok(()) => None,
             Err(_) => unreachable(),
         },
     }
 }
 
-// A whole run from `home`, in the order given. A refused begin has changed nothing.
+// A whole run from `home`, in the order given, and how it ended. One that as many passes as a book may have exchanges
+// did not end is given up, and none is answered: of a book that accepted calls made, no run is.
+// A refused begin has changed nothing.
 pub fn run_whole<L: Length, O: ScanOrder<L>>(
     book: &mut Book,
     lengths: &mut [L],
     order: &O,
     home: u16,
-) -> Result<Ended, Refusal>
+) -> Result<Option<Ending>, Refusal>
     ensures whole { Whole L.Length.kind (ByOrder L.Length.kind O.ScanOrder.answers book.old.n) (state_of book.old lengths.old) home result (state_of book.new lengths.new) }
     ensures ends { EndsRight L.Length.kind (state_of book.old lengths.old) result (state_of book.new lengths.new) }
 {

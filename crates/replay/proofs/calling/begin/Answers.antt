@@ -1,19 +1,11 @@
-use Rattle.std.proofs.Common.{◌≡◌, length, sym, refl, subst}
-use Rattle.book.specs.declared.Book.{Book}
-use Rattle.replay.specs.Making.{Bears, Makes}
+use Rattle.std.proofs.lemmas.Result.{err_from_is_err_and}
+use Rattle.replay.specs.Making.{Makes}
 use Rattle.replay.proofs.calling.begin.Goals as goal
 
-pub returns-in-Ok-None : goal.returns-in-Ok-None
-returns-in-Ok-None g c = record {
-  makes = Makes.does c.in-Ok-None.ensures.serves.does;
-  bears = c.in-Ok-None.ensures.owed;
-}
+pub returns-in_err-ticket-clause-makes : goal.returns-in_err-ticket-clause-makes
+returns-in_err-ticket-clause-makes g c =
+    let e = err_from_is_err_and c.from_residual.result c.from_residual.ensures.1 in
+    rw (e.1, e.2) (Makes.does c.in_err-ticket.ensures.serves.does)
 
-pub returns-in-Err-default : goal.returns-in-Err-default
-returns-in-Err-default g c =
-    let b = c.args.book.now in
-    let same : c.begin.new.self ≡ b = c.in-Err-default.ensures.refused refl in
-    record {
-      makes = Makes.does c.in-Err-default.ensures.serves.does;
-      bears = subst (λ (q : Book). Bears c.args.held q (length c.args.lengths.now)) (sym same) c.requires;
-    }
+pub returns-clause-makes : goal.returns-clause-makes
+returns-clause-makes g c = Makes.does c.in_ok-ticket.ensures.serves.does

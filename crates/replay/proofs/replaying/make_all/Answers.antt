@@ -14,14 +14,14 @@ loop-i-init g c = (c.requires.0, (refl, refl), MakesAll.none, refl)
 pub loop-i-preserved : goal.loop-i-preserved
 loop-i-preserved g c =
     let b = c.args.book.now in
-    let e = c.make-answer.ensures in
+    let e = c.make.ensures in
     let same = c.loop-i.invariant.1 in
     let inside : c.loop-i.i < length c.loop-i.answers = omega (arith, c.requires.1) in (
-      subst (λ (k : ℕ). Bears c.make-answer.result.1 c.make-answer.new.book k) c.loop-i.auto.lengths e.bears,
+      subst (λ (k : ℕ). Bears c.make.new.held c.make.new.book k) c.loop-i.auto.lengths e.bears,
       (e.same.0 ∙ same.0, e.same.1 ∙ same.1),
       so_on g.L.Length.kind g.O.ScanOrder.answers b.number b.n (state_of b c.args.lengths.now) c.args.calls.now c.loop-i.i c.loop-i.answers (state_of c.loop-i.book c.loop-i.lengths)
-          (state_of c.make-answer.new.book c.make-answer.new.lengths) c.index-calls-i.result c.make-answer.result.0 c.loop-i.book.number c.loop-i.book.n c.loop-i-test.true inside c.index-calls-i.is same.0 same.1 c.loop-i.invariant.2 e.makes,
-      behind c.loop-i.answers c.args.answers.now c.loop-i.i c.make-answer.result.0 c.loop-i.invariant.3,
+          (state_of c.make.new.book c.make.new.lengths) c.index-calls-i.result c.make.result c.loop-i.book.number c.loop-i.book.n c.loop-i-test.true inside c.index-calls-i.is same.0 same.1 c.loop-i.invariant.2 e.makes,
+      behind c.loop-i.answers c.args.answers.now c.loop-i.i c.make.result c.loop-i.invariant.3,
     )
 
 pub returns : goal.returns

@@ -15,11 +15,11 @@ returns g c =
     let makes = made_on_new K c.args.number c.args.n c.args.lengths.now rule b new.number.0 new.number.1 new.empty.0 new.empty.1 c.args.calls.now
     (map answer_of (take many c.make_all-ticket.new.answers)) (state_of c.make_all-ticket.new.book last) c.make_all-ticket.ensures.makes in
     let all = replays_so K c.args.number c.args.n c.args.lengths.now rule c.args.calls.now (take many c.make_all-ticket.new.answers)
-    (record { book = c.make_all-ticket.new.book; ticket = c.make_all-ticket.result; read = c.read_out-read.result }) last c.min.result c.args.charges.now c.read_out-read.new.charges
-    c.args.arrivals.now c.read_out-read.new.arrivals c.args.looped.now c.read_out-read.new.looped makes (subst (λ (k : ℕ). Bears c.make_all-ticket.result c.make_all-ticket.new.book k) (sym c.make_all-ticket.auto.lengths) c.make_all-ticket.ensures.bears.0) c.if-looped-n.false
+    (record { book = c.make_all-ticket.new.book; ticket = c.make_all-ticket.result; read = c.read_out-read.result }) last c.min.result c.args.lines.now c.read_out-read.new.lines
+    c.args.looped.now c.read_out-read.new.looped makes (subst (λ (k : ℕ). Bears c.make_all-ticket.result c.make_all-ticket.new.book k) (sym c.make_all-ticket.auto.lengths) c.make_all-ticket.ensures.bears.0) c.if-looped-n.false
     (λ few. c.min.ensures ∙ omega arith) c.read_out-read.ensures in
     record {
-      when = long_enough (length c.args.answers.now) many (length c.args.charges.now) c.args.n (length c.args.arrivals.now) (length c.args.looped.now) c.if-answers-calls.false c.if-charges-n.false c.if-arrivals-n.false c.if-looped-n.false;
+      when = long_enough (length c.args.answers.now) many (length c.args.lines.now) c.args.n (length c.args.looped.now) c.if-answers-calls.false c.if-lines-n.false c.if-looped-n.false;
       refused = tt;
       replays = all.0;
       leaves = (c.make_all-ticket.ensures.kept, all.1);

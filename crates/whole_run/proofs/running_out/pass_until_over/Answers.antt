@@ -1,4 +1,4 @@
-use Rattle.std.proofs.Common.{ℕ, ◌<◌, length, sym, refl, ◌∙◌, subst, inr, arith}
+use Rattle.std.proofs.Common.{ℕ, ◌<◌, length, sym, refl, ◌∙◌, subst, arith}
 use Rattle.book.specs.Answers.{answer_by, shows}
 use Rattle.book.specs.State.{Owed, state_of}
 use Rattle.whole_run.specs.Whole.{Passes}
@@ -25,8 +25,8 @@ loop-preserved g c =
       on K answers n size b ls t inv.1 c.loop.auto.lengths inv.0 (state_of c.args.book.now c.args.lengths.now) c.loop.counter inv.2 s' c.pass.result (sym c.goes_on.ensures ∙ c.if-not-goes_on.false) does,
     )
 
-pub returns-then-not-goes_on : goal.returns-then-not-goes_on
-returns-then-not-goes_on g c =
+pub returns-then-not-goes_on-clause-passes : goal.returns-then-not-goes_on-clause-passes
+returns-then-not-goes_on-clause-passes g c =
     let K = g.L.Length.kind in
     let answers = g.O.ScanOrder.answers in
     let b = c.loop.book in
@@ -37,13 +37,4 @@ returns-then-not-goes_on g c =
     let s' = state_of c.pass.new.self c.pass.new.lengths in
     let inv = c.loop.invariant in
     let few : c.loop.counter < 256 = omega arith in
-    record {
-      owed = subst (λ (k : ℕ). Owed t c.pass.new.self k) c.loop.auto.lengths (c.pass.ensures.owed t (owed_here K answers n size b ls t inv.1 c.loop.auto.lengths inv.0));
-      passes = out K answers n size b ls t inv.1 c.loop.auto.lengths inv.0 (state_of c.args.book.now c.args.lengths.now) c.loop.counter inv.2 s' c.pass.result (sym c.goes_on.ensures ∙ c.if-not-goes_on.true) c.pass.ensures.serves.does few;
-    }
-
-pub returns : goal.returns
-returns g c = record {
-  owed = c.loop.invariant.0;
-  passes = record { count = c.loop.counter; passes = c.loop.invariant.2; few = omega arith; enough = inr (omega arith) };
-}
+    out K answers n size b ls t inv.1 c.loop.auto.lengths inv.0 (state_of c.args.book.now c.args.lengths.now) c.loop.counter inv.2 s' c.pass.result (sym c.goes_on.ensures ∙ c.if-not-goes_on.true) c.pass.ensures.serves.does few
