@@ -52,18 +52,12 @@ fn offset_of(fault: RecordFault) -> usize
 }
 
 // Tells the records of a tape by the kind of its lengths.
-fn tell_kind(
-    heap: Global,
-    tape: &[u8],
-    kind: LengthKind,
-    n: u16,
-    out: &mut String,
-) -> Result<(), AllocError>
-    ensures { OnOk result (TellsKind (kind_number kind) n tape.now (string_bytes out.old) (string_bytes out.new)) }
+fn tell_kind(heap: Global, tape: &[u8], head: Head, out: &mut String) -> Result<(), AllocError>
+    ensures { OnOk result (TellsKind (kind_number head.kind) head.n tape.now (string_bytes out.old) (string_bytes out.new)) }
 {
-    match kind {
-        LengthKind::Charge => tell::<Charge>(heap, tape, n, out),
-        LengthKind::ChargeDelay => tell::<ChargeDelay>(heap, tape, n, out),
+    match head.kind {
+        LengthKind::Charge => tell::<Charge>(heap, tape, head.n, out),
+        LengthKind::ChargeDelay => tell::<ChargeDelay>(heap, tape, head.n, out),
     }
 }
 
@@ -75,7 +69,7 @@ pub fn sheet_of(heap: Global, tape: &[u8]) -> Result<String, AllocError>
     let mut out = String::new(heap);
     match read_head(tape) {
         Err(fault) => print_fault_at(&mut out, fault, offset_of(fault))?,
-        Ok(Head { kind, n }) => tell_kind(heap, tape, kind, n, &mut out)?,
+        Ok(head) => tell_kind(heap, tape, head, &mut out)?,
     }
     Ok(out)
 }

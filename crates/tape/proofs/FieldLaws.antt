@@ -1,12 +1,10 @@
 -- Numbers and the bytes that write them.
-use Rattle.std.proofs.Common.{◌≡◌, ℕ, zero, suc, ◌+◌, ◌-◌, ◌*◌, ◌/◌, ◌%◌, ◌^◌, ◌<◌, ◌≤◌, List, [], ◌∷◌, ◌++◌, length, get_or, take, drop, set, sym, refl, ap, ◌∙◌, pow-suc, add-one, arith, lit<}
+use Rattle.std.proofs.Common.{◌≡◌, ℕ, zero, suc, ◌+◌, ◌-◌, ◌*◌, ◌/◌, ◌%◌, ◌^◌, ◌<◌, ◌≤◌, List, [], ◌∷◌, ◌++◌, length, get_or, take, drop, sym, refl, ap, ◌∙◌, pow-suc, add-one, arith, lit<}
 use native.Mathlib.Nat.{mod-one}
-use borrow.Rule.Slice.PartMut.{put_mid}
 use lib.Arith.{mod-mul}
-use Rattle.std.proofs.lemmas.Nat.{mod_below}
-use Rattle.std.proofs.lemmas.List.{take_all, take_more, length_push, append-nil, append_assoc, drop_all, drop-set, drop-drop, length-drop, length-take-le}
+use Rattle.std.proofs.lemmas.List.{take_all, take_more, length-drop, length-take-le}
 use Rattle.std.proofs.lemmas.List.Sums.{fold_push, fold_more}
-use Rattle.tape.specs.Fields.{number, bytes_of, Bytes, Pair, put}
+use Rattle.tape.specs.Fields.{number, bytes_of, Bytes, Pair}
 
 pub number_push : (bs : List ℕ) (b : ℕ) → number (bs ++ (b ∷ [])) ≡ number bs * 256 + b
 number_push bs b = fold_push (λ a b. a * 256 + b) 0 bs b
@@ -18,11 +16,6 @@ pub pow_256_pos : (k : ℕ) → 0 < 256 ^ k
 pow_256_pos zero = lit< tt
 pow_256_pos (suc k) = omega (arith, pow-suc 256 k, pow_256_pos k)
 
--- as many bytes as asked for
-pub length_bytes_of : (k x : ℕ) → length (bytes_of k x) ≡ k
-length_bytes_of zero x = refl
-length_bytes_of (suc k) x = omega (arith, length_push (bytes_of k (x / 256)) (x % 256), length_bytes_of k (x / 256))
-
 -- k bytes have the number below 256 ^ k
 pub number_bytes_of : (k x : ℕ) → number (bytes_of k x) ≡ x % 256 ^ k
 number_bytes_of zero x = sym (mod-one x)
@@ -30,16 +23,6 @@ number_bytes_of (suc k) x =
     number_push (bytes_of k (x / 256)) (x % 256)
     ∙ ap (λ n. n * 256 + x % 256) (number_bytes_of k (x / 256))
     ∙ sym (ap (λ n. x % n) (pow-suc 256 k) ∙ mod-mul x {m = 256 ^ k} {c = 256} (pow_256_pos k) (lit< tt))
-
-pub bytes_push : (bs : List ℕ) (b : ℕ) → Bytes bs → b < 256 → Bytes (bs ++ (b ∷ []))
-bytes_push [] b h small zero = small
-bytes_push [] b h small (suc i) = lit< tt
-bytes_push (x ∷ bs) b h small zero = h 0
-bytes_push (x ∷ bs) b h small (suc i) = bytes_push bs b (λ i. h (suc i)) small i
-
-pub bytes_bytes_of : (k x : ℕ) → Bytes (bytes_of k x)
-bytes_bytes_of zero x = λ i. lit< tt
-bytes_bytes_of (suc k) x = bytes_push (bytes_of k (x / 256)) (x % 256) (bytes_bytes_of k (x / 256)) (mod_below x 256 (lit< tt))
 
 -- the front of some bytes
 front_of_number : (bs : List ℕ) → Bytes bs → (i : ℕ) → i ≤ length bs → bytes_of i (number (take i bs)) ≡ take i bs
@@ -71,23 +54,6 @@ number_below bs h =
     let e : take (length bs) bs ≡ bs = take_all (length bs) bs (omega arith) in
     rw e at (front_below bs h (length bs) (omega arith))
 
--- what holds of each place holds past the end too
-pub bytes_below : (bs : List ℕ) → ((k : ℕ) → k < length bs → get_or bs k 0 < 256) → Bytes bs
-bytes_below [] h i = lit< tt
-bytes_below (b ∷ bs) h zero = h 0 (omega arith)
-bytes_below (b ∷ bs) h (suc i) = bytes_below bs (λ k lt. h (suc k) (omega arith)) i
-
--- bytes that are filled from their end: before the first, and one more
-pub fill_none : (xs : List ℕ) (x : ℕ) → bytes_of (length xs) x ++ drop (length xs) xs ≡ bytes_of (length xs) x
-fill_none xs x = rw (drop_all (length xs) xs (omega arith)) (append-nil (bytes_of (length xs) x))
-
-pub fill_more : (xs : List ℕ) (i x : ℕ) → 0 < i → i ≤ length xs → bytes_of (i - 1) (x / 256) ++ drop (i - 1) (set xs (i - 1) (x % 256)) ≡ bytes_of i x ++ drop i xs
-fill_more xs zero x pos le = absurd (omega (arith, pos))
-fill_more xs (suc i) x pos le =
-    let e : suc i - 1 ≡ i = omega arith in
-    let d : drop i (set xs i (x % 256)) ≡ x % 256 ∷ drop (i + 1) xs = drop-set xs i (x % 256) (omega arith) in
-    rw (e, d, add-one i) (sym (append_assoc (bytes_of i (x / 256)) (x % 256 ∷ []) (drop (suc i) xs)))
-
 -- the two bytes at a place
 at_two : (at : ℕ) → at + 2 - at ≡ 2
 at_two at = omega arith
@@ -106,12 +72,3 @@ pair_read xs at x le octets value =
     let same : x ≡ number (take 2 (drop at xs)) = omega arith in
     let back : bytes_of 2 (number (take 2 (drop at xs))) ≡ take 2 (drop at xs) = rw two at (bytes_of_number (take 2 (drop at xs)) h) in
     (omega arith, record { value = same; back = rw same back })
-
--- a part that was written anew
-pub part_written : (xs ys zs : List ℕ) (at k : ℕ) → ys ≡ zs → k ≡ length zs → put_mid at k xs ys ≡ put xs at zs
-part_written xs ys zs at k e n = rw (e, n, drop-drop (length zs) at xs) refl
-
--- two bytes, as `write_field` writes them
-pub pair_written : (xs ys : List ℕ) (at x : ℕ) → at + 2 ≤ length xs → ys ≡ bytes_of (length (take (at + 2 - at) (drop at xs))) x
-    → put_mid at (at + 2 - at) xs ys ≡ put xs at (bytes_of 2 x)
-pair_written xs ys at x le e = part_written xs ys (bytes_of 2 x) at (at + 2 - at) (rw (at_two at, length_two xs at le) at e) (at_two at)

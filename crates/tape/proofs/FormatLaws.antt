@@ -1,19 +1,9 @@
 -- The format of a record, one form at a time.
-use Rattle.std.proofs.Common.{◌≡◌, ℕ, ◌+◌, ◌*◌, ◌<◌, ◌≤◌, List, [], ◌∷◌, ◌++◌, length, get_or, take, drop, sym, refl, ap, ◌∙◌, arith, take-add}
-use lib.Bits.{bit_and}
+use Rattle.std.proofs.Common.{◌≡◌, ℕ, ◌+◌, ◌<◌, ◌≤◌, List, [], ◌∷◌, ◌++◌, length, get_or, take, drop, sym, refl, ap, ◌∙◌, arith, take-add}
 use lib.Count.{ones, ones_in}
-use Rattle.std.proofs.lemmas.Nat.{and_mask}
 use Rattle.std.proofs.lemmas.List.{drop-drop}
-use Rattle.std.proofs.lemmas.Bool.{eq-eqb, ne_eqb}
 use Rattle.tape.specs.Fields.{number, bytes_of, Pair}
 use Rattle.tape.specs.Format.{Item, lay, reprice, bar, home, size_of, item_in, record_bytes}
-
--- the size of a record, by its map's bits
-pub size_with : (w m : ℕ) → bit_and m 16 ≡ 16 → size_of w m ≡ 1 + 2 * ones (bit_and m 15) + w
-size_with w m h = rw (and_mask m 4, eq-eqb _ _ h) refl
-
-pub size_without : (w m : ℕ) → (bit_and m 16 ≡ 16 → ⊥) → size_of w m ≡ 1 + 2 * ones (bit_and m 15) + 0
-size_without w m h = rw (and_mask m 4, ne_eqb _ _ h) refl
 
 -- the sizes of the four forms
 pub size_lay : (w : ℕ) → size_of w 22 ≡ 5 + w

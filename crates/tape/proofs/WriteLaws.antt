@@ -1,45 +1,15 @@
 -- Records written over the front of some bytes, and read back.
-use Rattle.std.proofs.Common.{◌≡◌, ℕ, ◌+◌, ◌-◌, ◌^◌, ◌<◌, ◌≤◌, min, Bool, true, false, cond, leb, List, [], ◌∷◌, ◌++◌, length, get_or, take, drop, set, Ok, Err, Result, sym, refl, ap, ◌∙◌, arith}
-use Rattle.std.proofs.lemmas.List.{append_assoc, drop_at, drop-drop, length-append, take_at}
+use Rattle.std.proofs.Common.{◌≡◌, ℕ, ◌+◌, ◌-◌, ◌^◌, ◌<◌, ◌≤◌, min, Bool, true, false, cond, leb, List, length, get_or, drop, Ok, Err, Result, sym, refl, ap, ◌∙◌, arith}
+use Rattle.std.proofs.lemmas.List.{length-append, take_at}
 use Rattle.std.proofs.lemmas.Bool.{eqb-true, le-leb, lt-leb, le-ltb, lt-ltb}
 use Rattle.tape.specs.declared.faults.TapeFault.{TapeFault}
 use Rattle.tape.specs.declared.faults.TapeFault.TheVariants.{NoRoom}
-use Rattle.tape.specs.Fields.{number, bytes_of, put}
+use Rattle.tape.specs.Fields.{number, bytes_of}
 use Rattle.tape.specs.Format.{Item, lay, reprice, bar, home, is_legal, size_of, item_in, legal_state, record_at, record_bytes, of_width}
 use Rattle.tape.specs.Writing.{over_front, has_room, count_of, bytes_after, item_map, Short}
 use Rattle.tape.proofs.FieldLaws.{number_bytes_of}
 use Rattle.tape.proofs.FormatLaws.{size_lay, size_reprice, size_bar, size_home, item_lay, item_reprice, item_bar, item_home}
 use Rattle.tape.proofs.RecordLaws.{judged, record_judged, judged_good, found_same}
-
--- the first byte, and then one part after another
-pub over_first : (m : ℕ) (xs : List ℕ) → 0 < length xs → set xs 0 m ≡ over_front (m ∷ []) xs
-over_first m [] h = absurd (omega (arith, h))
-over_first m (x ∷ xs) h = refl
-
-pub over_more : (xs ys zs es : List ℕ) (i : ℕ) → xs ≡ over_front ys es → length ys ≡ i → put xs i zs ≡ over_front (ys ++ zs) es
-over_more xs ys zs es i e n =
-    let t : take i (over_front ys es) ≡ ys = take_at ys _ i n in
-    let d : drop i (over_front ys es) ≡ drop i es = drop_at ys _ i n ∙ ap (λ k. drop k es) n in
-    let f : drop (i + length zs) (over_front ys es) ≡ drop (i + length zs) es = sym (drop-drop (length zs) i _) ∙ ap (drop (length zs)) d ∙ drop-drop (length zs) i es in
-    let g : drop (length (ys ++ zs)) es ≡ drop (i + length zs) es = ap (λ k. drop k es) (length-append ys zs ∙ ap (λ k. k + length zs) n) in
-    rw (e, t, f, g) (sym (append_assoc ys zs (drop (i + length zs) es)))
-
-pub write_lay : (xs ys zs es : List ℕ) (i : Item) (m a b : ℕ) (l : List ℕ) → i ≡ lay a b l → m ≡ item_map i → 0 < length es
-    → xs ≡ put (set es 0 m) 1 (bytes_of 2 a) → ys ≡ put xs 3 (bytes_of 2 b) → zs ≡ put ys 5 l → zs ≡ over_front (record_bytes i) es
-write_lay xs ys zs es i m a b l e n some p q r =
-    let map : m ≡ 22 = n ∙ ap item_map e in
-    let o : set es 0 m ≡ over_front (22 ∷ []) es = ap (set es 0) map ∙ over_first 22 es some in
-    let x : xs ≡ over_front (22 ∷ bytes_of 2 a) es = p ∙ over_more (set es 0 m) (22 ∷ []) (bytes_of 2 a) es 1 o refl in
-    let y : ys ≡ over_front (22 ∷ (bytes_of 2 a ++ bytes_of 2 b)) es = q ∙ over_more xs (22 ∷ bytes_of 2 a) (bytes_of 2 b) es 3 x refl in
-    r ∙ over_more ys (22 ∷ (bytes_of 2 a ++ bytes_of 2 b)) l es 5 y refl ∙ sym (ap (λ k. over_front (record_bytes k) es) e)
-
-pub write_reprice : (xs ys es : List ℕ) (i : Item) (m t : ℕ) (l : List ℕ) → i ≡ reprice t l → m ≡ item_map i → 0 < length es
-    → xs ≡ put (set es 0 m) 1 (bytes_of 2 t) → ys ≡ put xs 3 l → ys ≡ over_front (record_bytes i) es
-write_reprice xs ys es i m t l e n some p q =
-    let map : m ≡ 17 = n ∙ ap item_map e in
-    let o : set es 0 m ≡ over_front (17 ∷ []) es = ap (set es 0) map ∙ over_first 17 es some in
-    let x : xs ≡ over_front (17 ∷ bytes_of 2 t) es = p ∙ over_more (set es 0 m) (17 ∷ []) (bytes_of 2 t) es 1 o refl in
-    q ∙ over_more xs (17 ∷ bytes_of 2 t) l es 3 x refl ∙ sym (ap (λ k. over_front (record_bytes k) es) e)
 
 -- a size that is computed is that of the bytes
 pub record_size : (w : ℕ) (i : Item) → of_width w i ≡ true → size_of w (item_map i) ≡ length (record_bytes i)
