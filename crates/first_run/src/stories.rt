@@ -11,6 +11,7 @@ use orders::queue_order::Queue;
 use orders::topological_order::Topological;
 use replay::replaying::replay;
 use replay::{Answer, Call, Line, Read, Replayed};
+use running::passing::ScanOrder;
 use std::io;
 use whole_run::running_out::run_whole;
 
@@ -37,33 +38,40 @@ fn give_back(book: &mut Book, lengths: &[Charge], ticket: Ticket)
     }
 }
 
+// A whole run from exchange 0 in this order, and what can be read of it.
+fn run<O: ScanOrder<Charge>>(
+    rt: &impl Print,
+    what: &str,
+    book: &mut Book,
+    lengths: &mut [Charge],
+    order: &O,
+) -> io::Result<()> {
+    let ended = run_whole(book, lengths, order, 0);
+    show_run(rt, what, book, lengths, ended)
+}
+
 pub fn both_orders(rt: &impl Print, book: &mut Book, lengths: &mut [Charge]) -> io::Result<()> {
-    let ending = run_whole(book, lengths, &Topological, 0);
-    show_run(rt, "topological order", book, lengths, ending)?;
-    let ending = run_whole(book, lengths, &Queue, 0);
-    show_run(rt, "queue order", book, lengths, ending)
+    run(rt, "topological order", book, lengths, &Topological)?;
+    run(rt, "queue order", book, lengths, &Queue)
 }
 
 // Trunk 1 is barred, made cheaper and opened again; then trunk 4 is given too large a credit.
 pub fn changes(rt: &impl Print, book: &mut Book, lengths: &mut [Charge]) -> io::Result<()> {
     show_done(rt, "trunk 1 barred", book.bar(lengths, 1))?;
-    let ending = run_whole(book, lengths, &Topological, 0);
-    show_run(rt, "without it", book, lengths, ending)?;
+    run(rt, "without it", book, lengths, &Topological)?;
     show_done(
         rt,
         "trunk 1 at -3",
         book.reprice(lengths, 1, Charge::of(-3)),
     )?;
     show_done(rt, "trunk 1 opened", book.unbar(lengths, 1))?;
-    let ending = run_whole(book, lengths, &Topological, 0);
-    show_run(rt, "with it", book, lengths, ending)?;
+    run(rt, "with it", book, lengths, &Topological)?;
     show_done(
         rt,
         "trunk 4 at -2",
         book.reprice(lengths, 4, Charge::of(-2)),
     )?;
-    let ending = run_whole(book, lengths, &Topological, 0);
-    show_run(rt, "then", book, lengths, ending)?;
+    run(rt, "then", book, lengths, &Topological)?;
     show_done(rt, "trunk 9 barred", book.bar(lengths, 9))
 }
 
