@@ -19,18 +19,8 @@ impl Rounds {
     ) -> Result<Rounds, AllocError> {
         let mut sums = vec![in heap; None; n as usize]?;
         put(&mut sums, home, Parts::ZERO);
-        for _ in 0..=n {
-            if !round::<L>(&mut sums, links) {
-                return Ok(Rounds {
-                    sums,
-                    endless: false,
-                });
-            }
-        }
-        Ok(Rounds {
-            sums,
-            endless: true,
-        })
+        let endless = (0..=n).all(|_| round::<L>(&mut sums, links));
+        Ok(Rounds { sums, endless })
     }
 
     // What has been found for exchange `x`, if anything.

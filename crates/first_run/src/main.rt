@@ -8,18 +8,19 @@ mod tests;
 
 use book::{Book, Space};
 use lengths::charge::Charge;
-use stories::{both_orders, changes, from_a_list, lay_all, two_books};
+use stories::{Example, from_a_list};
 
 // Places in the length list of the example: four labels, and room for more trunks than it has.
 const PLACES: usize = 16;
 
 fn main(rt: HostRuntime) -> anyhow::Result<()> {
-    let mut lengths = [Charge::of(0); PLACES];
-    let mut book = Book::new(Space::take(rt.alloc())?, 1, 4);
-    lay_all(&rt, &mut book, &mut lengths)?;
-    both_orders(&rt, &mut book, &mut lengths)?;
-    changes(&rt, &mut book, &mut lengths)?;
-    two_books(&rt, &mut book, &mut lengths)?;
-    from_a_list(&rt)?;
-    Ok(())
+    let mut example = Example {
+        book: Book::new(Space::take(rt.alloc())?, 1, 4),
+        lengths: [Charge::of(0); PLACES],
+    };
+    example.lay_all(&rt)?;
+    example.both_orders(&rt)?;
+    example.changes(&rt)?;
+    example.two_books(&rt)?;
+    from_a_list(&rt)
 }

@@ -1,4 +1,4 @@
-use book::Book;
+use super::stories::Example;
 use book::outcome::Ending;
 use book::refusal::Refusal;
 use lengths::charge::Charge;
@@ -33,7 +33,8 @@ fn show_line(rt: &impl Print, x: usize, line: Line<Charge>) -> io::Result<()> {
 }
 
 // A line for each exchange: its charge, and the trunk by which a call arrives.
-pub fn show_charges(rt: &impl Print, book: &Book, lengths: &[Charge]) -> io::Result<()> {
+fn show_charges(rt: &impl Print, example: &Example) -> io::Result<()> {
+    let Example { book, lengths } = example;
     for x in 0..4 {
         match (book.charge(lengths, x), book.arrival(lengths, x)) {
             (Ok(charge), Ok(arrival)) => show_line(rt, x as usize, Line { charge, arrival })?,
@@ -67,15 +68,15 @@ fn show_written(
     }
 }
 
-fn show_route(rt: &impl Print, book: &Book, lengths: &[Charge]) -> io::Result<()> {
+fn show_route(rt: &impl Print, example: &Example) -> io::Result<()> {
     let mut trunks = [0u16; 4];
-    let count = book.route(lengths, 3, &mut trunks);
+    let count = example.book.route(&example.lengths, 3, &mut trunks);
     show_written(rt, "route to 3", count, &trunks)
 }
 
-fn show_loop(rt: &impl Print, book: &Book, lengths: &[Charge]) -> io::Result<()> {
+fn show_loop(rt: &impl Print, example: &Example) -> io::Result<()> {
     let mut trunks = [0u16; 4];
-    let count = book.loop_trunks(lengths, &mut trunks);
+    let count = example.book.loop_trunks(&example.lengths, &mut trunks);
     show_written(rt, "loop", count, &trunks)
 }
 
@@ -83,19 +84,18 @@ fn show_loop(rt: &impl Print, book: &Book, lengths: &[Charge]) -> io::Result<()>
 pub fn show_run(
     rt: &impl Print,
     what: &str,
-    book: &Book,
-    lengths: &[Charge],
+    example: &Example,
     ending: Result<Option<Ending>, Refusal>,
 ) -> io::Result<()> {
     match ending {
         Ok(Some(Ending::Settled { passes, scans })) => {
             println!(rt; "{what}: settled, passes {passes}, scans {scans}")?;
-            show_charges(rt, book, lengths)?;
-            show_route(rt, book, lengths)
+            show_charges(rt, example)?;
+            show_route(rt, example)
         }
         Ok(Some(Ending::Loop { passes, scans })) => {
             println!(rt; "{what}: loop, passes {passes}, scans {scans}")?;
-            show_loop(rt, book, lengths)
+            show_loop(rt, example)
         }
         Ok(None) => println!(rt; "{what}: abandoned"),
         Err(refusal) => show_refusal(rt, what, refusal),

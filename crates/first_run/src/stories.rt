@@ -11,20 +11,18 @@ use orders::queue_order::Queue;
 use orders::topological_order::Topological;
 use replay::replaying::replay;
 use replay::{Answer, Call, Line, Read, Replayed};
+use running::passing::ScanOrder;
 use std::io;
 use whole_run::running_out::run_whole;
 
 // The example: from, to and charge of each trunk.
 const TRUNKS: [(u16, u16, i32); 5] = [(0, 2, 7), (0, 1, 4), (1, 2, -2), (2, 3, 3), (3, 1, 0)];
 
-pub fn lay_all(rt: &impl Print, book: &mut Book, lengths: &mut [Charge]) -> io::Result<()> {
-    for (from, to, mills) in TRUNKS {
-        match book.lay(lengths, from, to, Charge::of(mills)) {
-            Ok(t) => println!(rt; "trunk {t} from {from} to {to} at {mills}")?,
-            Err(refusal) => show_refusal(rt, "lay", refusal)?,
-        }
-    }
-    Ok(())
+// The book of the example, over its length list.
+#[derive(Drop)]
+pub struct Example {
+    pub book: Book,
+    pub lengths: [Charge; PLACES],
 }
 
 // Gives back the ticket of a run that is open.
@@ -37,61 +35,78 @@ fn give_back(book: &mut Book, lengths: &[Charge], ticket: Ticket)
     }
 }
 
-pub fn both_orders(rt: &impl Print, book: &mut Book, lengths: &mut [Charge]) -> io::Result<()> {
-    let ending = run_whole(book, lengths, &Topological, 0);
-    show_run(rt, "topological order", book, lengths, ending)?;
-    let ending = run_whole(book, lengths, &Queue, 0);
-    show_run(rt, "queue order", book, lengths, ending)
-}
-
-// Trunk 1 is barred, made cheaper and opened again; then trunk 4 is given too large a credit.
-pub fn changes(rt: &impl Print, book: &mut Book, lengths: &mut [Charge]) -> io::Result<()> {
-    show_done(rt, "trunk 1 barred", book.bar(lengths, 1))?;
-    let ending = run_whole(book, lengths, &Topological, 0);
-    show_run(rt, "without it", book, lengths, ending)?;
-    show_done(
-        rt,
-        "trunk 1 at -3",
-        book.reprice(lengths, 1, Charge::of(-3)),
-    )?;
-    show_done(rt, "trunk 1 opened", book.unbar(lengths, 1))?;
-    let ending = run_whole(book, lengths, &Topological, 0);
-    show_run(rt, "with it", book, lengths, ending)?;
-    show_done(
-        rt,
-        "trunk 4 at -2",
-        book.reprice(lengths, 4, Charge::of(-2)),
-    )?;
-    let ending = run_whole(book, lengths, &Topological, 0);
-    show_run(rt, "then", book, lengths, ending)?;
-    show_done(rt, "trunk 9 barred", book.bar(lengths, 9))
-}
-
-// A run is begun, another book is shown its ticket, and the run is abandoned.
-pub fn two_books(
-    rt: &(impl Print + AllocGlobal),
-    book: &mut Book,
-    lengths: &mut [Charge],
-) -> anyhow::Result<()> {
-    let mut other = Book::new(Space::take(rt.alloc())?, 2, 4);
-    let ticket = match book.begin(lengths, 3) {
-        Ok(ticket) => ticket,
-        Err(refusal) => {
-            show_refusal(rt, "begin at 3", refusal)?;
-            return Ok(());
+impl Example {
+    pub fn lay_all(&mut self, rt: &impl Print) -> io::Result<()> {
+        for (from, to, mills) in TRUNKS {
+            match self
+                .book
+                .lay(&mut self.lengths, from, to, Charge::of(mills))
+            {
+                Ok(t) => println!(rt; "trunk {t} from {from} to {to} at {mills}")?,
+                Err(refusal) => show_refusal(rt, "lay", refusal)?,
+            }
         }
-    };
-    let shown = other.pass(lengths, &Queue, &ticket);
-    let laid = book.lay(lengths, 0, 3, Charge::of(1));
-    give_back(book, lengths, ticket);
-    if let Err(refusal) = shown {
-        show_refusal(rt, "its ticket, shown to another book", refusal)?;
+        Ok(())
     }
-    if let Err(refusal) = laid {
-        show_refusal(rt, "a trunk, while the run is open", refusal)?;
+
+    // A whole run from exchange 0 in this order, and what can be read of it.
+    fn run<O: ScanOrder<Charge>>(
+        &mut self,
+        rt: &impl Print,
+        what: &str,
+        order: &O,
+    ) -> io::Result<()> {
+        let ended = run_whole(&mut self.book, &mut self.lengths, order, 0);
+        show_run(rt, what, self, ended)
     }
-    println!(rt; "the run is abandoned")?;
-    Ok(())
+
+    pub fn both_orders(&mut self, rt: &impl Print) -> io::Result<()> {
+        self.run(rt, "topological order", &Topological)?;
+        self.run(rt, "queue order", &Queue)
+    }
+
+    fn reprice(&mut self, rt: &impl Print, what: &str, trunk: u16, mills: i32) -> io::Result<()> {
+        let repriced = self
+            .book
+            .reprice(&mut self.lengths, trunk, Charge::of(mills));
+        show_done(rt, what, repriced)
+    }
+
+    // Trunk 1 is barred, made cheaper and opened again; then trunk 4 is given too large a credit.
+    pub fn changes(&mut self, rt: &impl Print) -> io::Result<()> {
+        show_done(rt, "trunk 1 barred", self.book.bar(&self.lengths, 1))?;
+        self.run(rt, "without it", &Topological)?;
+        self.reprice(rt, "trunk 1 at -3", 1, -3)?;
+        show_done(rt, "trunk 1 opened", self.book.unbar(&self.lengths, 1))?;
+        self.run(rt, "with it", &Topological)?;
+        self.reprice(rt, "trunk 4 at -2", 4, -2)?;
+        self.run(rt, "then", &Topological)?;
+        show_done(rt, "trunk 9 barred", self.book.bar(&self.lengths, 9))
+    }
+
+    // A run is begun, another book is shown its ticket, and the run is abandoned.
+    pub fn two_books(&mut self, rt: &(impl Print + AllocGlobal)) -> anyhow::Result<()> {
+        let Example { book, lengths } = self;
+        let mut other = Book::new(Space::take(rt.alloc())?, 2, 4);
+        let ticket = match book.begin(lengths, 3) {
+            Ok(ticket) => ticket,
+            Err(refusal) => {
+                show_refusal(rt, "begin at 3", refusal)?;
+                return Ok(());
+            }
+        };
+        let shown = other.pass(lengths, &Queue, &ticket);
+        let laid = book.lay(lengths, 0, 3, Charge::of(1));
+        give_back(book, lengths, ticket);
+        if let Err(refusal) = shown {
+            show_refusal(rt, "its ticket, shown to another book", refusal)?;
+        }
+        if let Err(refusal) = laid {
+            show_refusal(rt, "a trunk, while the run is open", refusal)?;
+        }
+        println!(rt; "the run is abandoned")?;
+        Ok(())
+    }
 }
 
 // Nine calls, as a list. One is refused, and one is skipped, since no run is open yet.

@@ -349,7 +349,3 @@ module _ {L : Type 0} (K : Kind L) (number n : ℕ) (first : List L) (answers : 
         },
         leaves_so h p.ok r.read lines lines' ring ring' reads,
       )
-
--- the three lists are long enough
-pub long_enough : (a b c d e : ℕ) → b ≤ a → d ≤ c → d ≤ e → true ≡ not (ltb a b || (ltb c d || ltb e d))
-long_enough a b c d e p q r = sym (not_from_false (ltb a b || (ltb c d || ltb e d)) (or_from (ltb a b) _ (le-ltb a b p) (or_from (ltb c d) (ltb e d) (le-ltb c d q) (le-ltb e d r))))

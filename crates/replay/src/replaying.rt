@@ -28,6 +28,7 @@ fn make_all<L: Length, O: ScanOrder<L>>(
     ensures kept { drop (length calls.now) answers.new ≡ drop (length calls.now) answers.old }
 {
     let mut held = None;
+    // By index: after a zip with `answers.iter_mut()`, the proof knows nothing of the answers.
     for (i, call) in calls.iter().enumerate() {
         answers[i] = make(book, lengths, &mut held, order, *call);
     }
@@ -36,6 +37,7 @@ fn make_all<L: Length, O: ScanOrder<L>>(
 
 // Makes a new book, makes each of these calls on it through its own methods, and reads the finished run into the
 // lent lists. A refused call is answered and passed by. A list that is too short is refused before anything is done.
+// The lists are lent one by one: of a struct of them, a clause for each would have to say that it is still the same.
 pub fn replay<L: Length, O: ScanOrder<L>>(
     space: Space,
     number: u16,

@@ -49,7 +49,7 @@ fn show_route(
 }
 
 fn run(rt: &HostRuntime) -> anyhow::Result<()> {
-    let _ = worked_examples();
+    worked_examples();
     show_fit(rt)?;
     let mut lengths = [Charge::of(0); 9];
     let mut book = Book::new(Space::take(rt.alloc())?, 1, 4);

@@ -14,4 +14,4 @@ returns-clause-makes g c =
     let ls = c.args.lengths.now in
     let answered : answer_of c.map.result ≡ answer_by shows c.pass.result = mapped _ shows c.pass.result c.map.result (λ a x p. search rules) c.map.ensures.cases in
     subst (λ (x : Answer). Makes K (ByOrder K g.O.ScanOrder.answers b.n) (state_of b ls) (do_pass b.number) x (state_of c.pass.new.self c.pass.new.lengths)) (sym answered)
-    (shown_own (length ls) do_pass (held_owed b (length ls) c.requires refl c.in-Some.is) c.pass.ensures.serves.does)
+    (shown_own {s' = state_of c.pass.new.self c.pass.new.lengths} (length ls) do_pass (held_owed b (length ls) c.requires refl c.in-Some.is) c.pass.ensures.serves.does)

@@ -1,7 +1,7 @@
-use Rattle.std.proofs.Common.{ℕ, map, length, take, sym, ◌∙◌, subst, arith}
+use Rattle.std.proofs.Common.{ℕ, map, length, take, sym, ◌∙◌, subst, arith, rules}
 use Rattle.book.specs.State.{state_of}
 use Rattle.replay.specs.Making.{Bears, answer_of}
-use Rattle.replay.proofs.Promised.{made_on_new, replays_so, long_enough}
+use Rattle.replay.proofs.Promised.{made_on_new, replays_so}
 use Rattle.replay.proofs.replaying.replay.Goals as goal
 
 pub returns : goal.returns
@@ -19,7 +19,7 @@ returns g c =
     c.args.looped.now c.read_out-read.new.looped makes (subst (λ (k : ℕ). Bears c.make_all-ticket.result c.make_all-ticket.new.book k) (sym c.make_all-ticket.auto.lengths) c.make_all-ticket.ensures.bears.0) c.if-looped-n.false
     (λ few. c.min.ensures ∙ omega arith) c.read_out-read.ensures in
     record {
-      when = long_enough (length c.args.answers.now) many (length c.args.lines.now) c.args.n (length c.args.looped.now) c.if-answers-calls.false c.if-lines-n.false c.if-looped-n.false;
+      when = search rules;
       refused = tt;
       replays = all.0;
       leaves = (c.make_all-ticket.ensures.kept, all.1);
