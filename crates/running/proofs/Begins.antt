@@ -56,7 +56,6 @@ module _ {L : Type 0} (ls : List L) where
 
   -- a run that differs from w in its verdict alone
   with_verdict : Work → Verdict → Run L
-  unfolding run_of
   with_verdict w e = record { lengths = ls; entries = seen_all w.table; waiting = vec_items w.waiting; passes = w.passes; scans = w.scans; verdict = e }
 
   pub run_concluded : (K : Kind L) (n : ℕ) (ts : List Trunk) (w w' : Work) → w'.table ≡ w.table → w'.waiting ≡ w.waiting → w'.passes ≡ w.passes → w'.scans ≡ w.scans

@@ -2,7 +2,6 @@ pub mod Tables
 pub mod Backs
 pub mod Rooms
 pub mod Homes
-pub mod Improving
 pub mod Indexes
 pub mod Moves
 pub mod Steps

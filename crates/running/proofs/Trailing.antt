@@ -1,7 +1,7 @@
 -- The way back, counted and then written from its far end.
 use Rattle.std.specs.Option.{option_eq}
 use Rattle.std.proofs.Common.{◌≡◌, eqb, ℕ, zero, suc, ◌+◌, ◌-◌, ◌<◌, ◌≤◌, Bool, true, false, cond, ◌⊎◌, List, [], ◌∷◌, ◌++◌, length, get_or, take, drop, set, Some, None, Option, sym, refl, ap, ◌∙◌, subst, inl, inr, arith}
-use Rattle.std.proofs.lemmas.List.{append-nil, drop_all, length-append, length-take-le, length-drop, take_all, take_more, drop_more, append_assoc, take-append-drop, get_or_append_left, same_from_push, set_at, drop_at, set-append_left}
+use Rattle.std.proofs.lemmas.List.{append-nil, drop_all, length-take-le, take_all, take_more, drop_more, append_assoc, same_from_push, set_at, set-append_left}
 use Rattle.std.proofs.lemmas.Bool.{cases_Bool, cond-true, cond-false}
 use Rattle.routing.specs.declared.Trunk.{Trunk}
 use Rattle.routing.specs.Rules.{Entry, unreached, trunk}

@@ -1,11 +1,8 @@
 use Rattle.std.proofs.Common.{◌<◌, get_or, sym, arith}
 use Rattle.std.proofs.lemmas.Bool.{both_ways}
 use Rattle.routing.specs.Rules.{is_loop}
-use Rattle.running.proofs.Turns.{has_at, turning_start, turning_over, turning_end, turning_on, placed_sound}
+use Rattle.running.proofs.Turns.{has_at, turning_over, turning_on, placed_sound}
 use Rattle.running.proofs.Work.take_turns.Goals as goal
-
-pub loop-v-init : goal.loop-v-init
-loop-v-init g c = turning_start g.L.Length.kind c.args.net.n c.args.net.trunks.now c.args.answered.now c.args.self.now c.args.lengths.now c.requires.sound c.requires.marked
 
 pub returns-then-found_loop : goal.returns-then-found_loop
 returns-then-found_loop g c = record {
@@ -33,8 +30,3 @@ loop-v-preserved g c =
     turning_on g.L.Length.kind c.args.net.n c.args.net.trunks.now c.args.answered.now c.args.self.now c.args.lengths.now c.loop-v.v-index c.loop-v.self c.loop-v.lengths c.loop-v.invariant c.loop-v-test.true c.requires.once.0
     c.mark.new.self c.mark.ensures.seen c.mark.ensures.dues c.mark.ensures.len c.mark.ensures.cap
     (c.requires.once.1 _ (has_at c.args.answered.now c.loop-v.v-index c.loop-v-test.true)) (sym c.if-found_loop.ensures) c.scan.new.self c.scan.new.lengths c.scan.ensures.sound c.scan.ensures.room c.scan.ensures.does
-
-pub returns : goal.returns
-returns g c =
-    let done = turning_end g.L.Length.kind c.args.net.n c.args.net.trunks.now c.args.answered.now c.args.self.now c.args.lengths.now c.loop-v.v-index c.loop-v.self c.loop-v.lengths c.loop-v.invariant (omega arith) in
-    record { sound = c.loop-v.invariant.sound; room = c.loop-v.invariant.room; marked = λ goes. done.0; does = done.1 }

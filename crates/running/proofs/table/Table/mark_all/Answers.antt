@@ -1,12 +1,9 @@
-use Rattle.std.proofs.Common.{◌+◌, ◌<◌, length, get_or, vec_items, vec_len, sym, refl, ◌∙◌, subst, arith}
+use Rattle.std.proofs.Common.{◌+◌, ◌<◌, length, get_or, vec_items, vec_len, sym, ◌∙◌, subst, arith}
 use Rattle.std.proofs.lemmas.List.{length-map}
 use Rattle.running.specs.Table.{dues}
 use Rattle.running.proofs.Turns.{has_at}
-use Rattle.running.proofs.Marking.{GivenFirst, given_none, given_more, given_all}
+use Rattle.running.proofs.Marking.{GivenFirst, given_more}
 use Rattle.running.proofs.table.Table.mark_all.Goals as goal
-
-pub loop-v-init : goal.loop-v-init
-loop-v-init c = (refl, given_none (dues c.args.self.now) c.args.list.now c.args.due, refl, refl)
 
 pub mark-requires : goal.mark-requires
 mark-requires c =
@@ -24,11 +21,3 @@ loop-v-preserved c =
       c.mark.ensures.len ∙ c.loop-v.invariant.2,
       c.mark.ensures.cap ∙ c.loop-v.invariant.3,
     )
-
-pub returns : goal.returns
-returns c = record {
-  seen = c.loop-v.invariant.0;
-  dues = given_all (dues c.args.self.now) c.args.list.now c.args.due (dues c.loop-v.self) c.loop-v.v-index (omega arith) c.loop-v.invariant.1;
-  len = c.loop-v.invariant.2;
-  cap = c.loop-v.invariant.3;
-}

@@ -1,4 +1,4 @@
-use Rattle.std.proofs.Common.{◌≡◌, get_or, Some, refl, ap, ◌∙◌, arith}
+use Rattle.std.proofs.Common.{◌≡◌, get_or, Some, ap, ◌∙◌, arith}
 use Rattle.routing.specs.Rules.{unreached}
 use Rattle.running.specs.Table.{seen_all}
 use Rattle.running.proofs.Tables.{read_seen}
@@ -10,6 +10,3 @@ arriving c = ap (λ z. z.arriving) (read_seen c.args.self.table.now c.args.x c.i
 
 pub bounds-self-t : goal.bounds-self-t
 bounds-self-t c = c.args.self.arrivals c.args.x c.in_ok-t.t (arriving c)
-
-pub returns : goal.returns
-returns c = (arriving c, refl, c.args.self.net.ends.0 c.in_ok-t.t (c.args.self.arrivals c.args.x c.in_ok-t.t (arriving c)))

@@ -2,14 +2,8 @@ use Rattle.std.proofs.Common.{◌≡◌, ℕ, ◌+◌, ◌-◌, List, subst, set
 use Rattle.routing.specs.declared.Trunk.{Trunk}
 use Rattle.routing.specs.Rules.{Entry}
 use Rattle.running.specs.Table.{seen_all}
-use Rattle.running.proofs.Trailing.{Left, left_start, left_on, never_none}
+use Rattle.running.proofs.Trailing.{Left, left_on, never_none}
 use Rattle.running.proofs.way.Way.write_trail.Goals as goal
-
-pub loop-i-init : goal.loop-i-init
-loop-i-init c = (
-  c.requires,
-  λ stop long. left_start c.args.self.net.n c.args.self.net.trunks.now (seen_all c.args.self.table.now) stop c.args.x c.args.into.now long c.requires,
-)
 
 pub loop-i-preserved-in-Some : goal.loop-i-preserved-in-Some
 loop-i-preserved-in-Some c =
