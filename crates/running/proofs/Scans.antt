@@ -48,6 +48,3 @@ module _ {L : Type 0} (K : Kind L) (n : ℕ) (ts : List Trunk) (v : ℕ) where
 
     pub going_over : is_loop w.verdict ≡ true → Done
     going_over over later h = let (m, e) = before.run later h in (m, sym (e ∙ all_over later left (run_of w ls) over))
-
-    pub going_none : left ≡ [] → Done
-    going_none none later h = let (m, e) = before.run later h in (m, sym (e ∙ ap (λ us. tried_all K n ts later v us (run_of w ls)) none))

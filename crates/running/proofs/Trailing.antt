@@ -1,7 +1,7 @@
 -- The way back, counted and then written from its far end.
 use Rattle.std.specs.Option.{option_eq}
 use Rattle.std.proofs.Common.{◌≡◌, eqb, ℕ, zero, suc, ◌+◌, ◌-◌, ◌<◌, ◌≤◌, Bool, true, false, cond, ◌⊎◌, List, [], ◌∷◌, ◌++◌, length, get_or, take, drop, set, Some, None, Option, sym, refl, ap, ◌∙◌, subst, inl, inr, arith}
-use Rattle.std.proofs.lemmas.List.{append-nil, drop_all, length-take-le, take_all, take_more, drop_more, append_assoc, same_from_push, set_at, set-append_left}
+use Rattle.std.proofs.lemmas.List.{length-take-le, take_more, drop_more, append_assoc, same_from_push, set_at, set-append_left}
 use Rattle.std.proofs.lemmas.Bool.{cases_Bool, cond-true, cond-false}
 use Rattle.routing.specs.declared.Trunk.{Trunk}
 use Rattle.routing.specs.Rules.{Entry, unreached, trunk}
@@ -64,16 +64,6 @@ module _ (n : ℕ) (ts : List Trunk) (es : List Entry) (stop : Option ℕ) (x : 
     pub wrote : now_is ≡ take i before ++ drop i full
 
   module _ (long : length before ≡ length full) where
-    pub left_start : x < n → Left (length before) x before
-    left_start low = record {
-      inside = low;
-      within = omega arith;
-      rest =
-          let none : n - (length full - length before) ≡ n = omega arith in
-          take_all (length before) full (omega arith) ∙ ap (λ (k : ℕ). trail k ts es stop x) (sym none);
-      wrote = sym (ap (λ (ys : List ℕ). take (length before) before ++ ys) (drop_all (length before) full (omega arith)) ∙ append-nil (take (length before) before) ∙ take_all (length before) before (omega arith));
-    }
-
     -- i is one above the place written next
     module _ (i at : ℕ) (now_is : List ℕ) (left : Left (i + 1) at now_is) where
       ends : (t : ℕ) × EndedBy ts es stop (n - (length full - (i + 1))) at t
@@ -113,6 +103,3 @@ module _ (n : ℕ) (ts : List Trunk) (es : List Entry) (stop : Option ℕ) (x : 
           front_set i t l =
               ap (λ (ys : List ℕ). set ys i t) (take_more before i 0 l)
               ∙ set_at (take i before) (get_or before i 0) [] t i (length-take-le i before (omega arith))
-
-    pub left_end : (at : ℕ) (now_is : List ℕ) → Left 0 at now_is → now_is ≡ full
-    left_end at now_is left = left.wrote

@@ -1,6 +1,6 @@
 -- The turns of an answered list, one by one.
-use Rattle.std.proofs.Common.{◌≡◌, ℕ, zero, suc, ◌+◌, ◌<◌, ◌≤◌, Bool, true, false, ◌||◌, List, [], ◌∷◌, length, get_or, drop, set, vec_items, vec_len, vec_capacity, sym, refl, ap, ◌∙◌, subst, ⊎_elim, le_of_suc-le-suc, not-suc-le-zero, arith}
-use Rattle.std.proofs.lemmas.List.{drop_more, drop_all, get_or-set_same, get_or-set_other, length-map}
+use Rattle.std.proofs.Common.{◌≡◌, ℕ, zero, suc, ◌+◌, ◌<◌, Bool, true, false, ◌||◌, List, [], ◌∷◌, length, get_or, drop, set, vec_items, vec_len, vec_capacity, sym, refl, ap, ◌∙◌, subst, ⊎_elim, le_of_suc-le-suc, not-suc-le-zero, arith}
+use Rattle.std.proofs.lemmas.List.{drop_more, get_or-set_same, get_or-set_other, length-map}
 use Rattle.std.proofs.lemmas.Bool.{cond-true, cond-false, both_ways, cases_eq, or_from, ne_eqb}
 use Rattle.routing.specs.Lists.{Once, has}
 use Rattle.routing.specs.declared.Trunk.{Trunk}
@@ -11,7 +11,7 @@ use Rattle.running.specs.declared.table.Table.{Table}
 use Rattle.running.specs.declared.Work.{Work}
 use Rattle.running.specs.Table.{dues, seen_all}
 use Rattle.running.specs.Work.{Sound, Marked, Marks, Arrivals, SameRoom, run_of}
-use Rattle.running.proofs.Rooms.{same_room, room_then}
+use Rattle.running.proofs.Rooms.{room_then}
 
 -- the first to come has its turn
 pub marks_first : (n : ℕ) (ds : List Bool) (ws later : List ℕ) (v : ℕ) → v < length ds → has v later ≡ false → Marks n ds ws (v ∷ later) → Marks n (set ds v false) ws later
@@ -60,17 +60,9 @@ module _ {L : Type 0} (K : Kind L) (n : ℕ) (ts : List Trunk) (answered : List 
   over_all [] r e = refl
   over_all (v ∷ later) r e = cond-true (is_loop r.verdict) r _ e
 
-  pub turning_start : (w : Work) (ls : List L) → Sound n ts w → Marked n w answered → Turning w ls 0 w ls
-  turning_start w ls s m = record { sound = s; room = same_room w; marked = m; run = refl }
-
   module _ (w₀ : Work) (ls₀ : List L) (i : ℕ) (w : Work) (ls : List L) (before : Turning w₀ ls₀ i w ls) where
     pub turning_over : is_loop w.verdict ≡ true → run_of w ls ≡ turns K n ts answered (run_of w₀ ls₀)
     turning_over e = sym (before.run ∙ over_all (drop i answered) (run_of w ls) e)
-
-    pub turning_end : length answered ≤ i → Marked n w [] × (run_of w ls ≡ turns K n ts answered (run_of w₀ ls₀))
-    turning_end l =
-        let none : drop i answered ≡ [] = drop_all i answered l in
-        (subst (λ xs. Marked n w xs) none before.marked, sym (before.run ∙ ap (λ xs. turns K n ts xs (run_of w ls)) none))
 
     -- the next has its turn: its place is taken off first, which gives the table b
     module _ (l : i < length answered) (once : Once answered) (b : Table) (same : seen_all b ≡ seen_all w.table)
