@@ -3,6 +3,7 @@ use super::parts::{Parts, Plain};
 use std::alloc::{AllocError, Global};
 
 // What plain rounds over all trunks come to: a sum for each exchange that is reached, and whether sums fall without end.
+// The sums are asked for in both cases, so neither is a `Result`'s error.
 #[derive(Drop)]
 pub struct Rounds {
     sums: Vec<Option<Parts>>,

@@ -1,5 +1,4 @@
 pub mod Shown
 pub mod Heads
-pub mod Along
 pub mod Visits
 pub mod Searches
