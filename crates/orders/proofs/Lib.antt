@@ -1,4 +1,3 @@
 pub mod Shown
-pub mod Heads
 pub mod Visits
 pub mod Searches
