@@ -33,7 +33,7 @@ fn show_line(rt: &impl Print, x: usize, line: Line<Charge>) -> io::Result<()> {
 }
 
 // A line for each exchange: its charge, and the trunk by which a call arrives.
-fn show_charges(rt: &impl Print, example: &Example) -> io::Result<()> {
+pub fn show_charges(rt: &impl Print, example: &Example) -> io::Result<()> {
     let Example { book, lengths } = example;
     for x in 0..4 {
         match (book.charge(lengths, x), book.arrival(lengths, x)) {
@@ -44,7 +44,7 @@ fn show_charges(rt: &impl Print, example: &Example) -> io::Result<()> {
     Ok(())
 }
 
-fn show_trunks(rt: &impl Print, what: &str, trunks: &[u16]) -> io::Result<()> {
+pub fn show_trunks(rt: &impl Print, what: &str, trunks: &[u16]) -> io::Result<()> {
     print!(rt; "  {what}:")?;
     for t in trunks {
         print!(rt; " {t}")?;

@@ -22,8 +22,7 @@ pub(crate) fn refill<T: Copy>(items: &mut Vec<T>, x: T, n: usize)
 impl Work {
     // A run from `home` begins.
     pub fn begin<L: Length>(&mut self, lengths: &mut [L], n: usize, home: u16)
-        requires home { home < n }
-        requires fits { n ≤ length lengths.old }
+        requires home { (home < n) × (n ≤ length lengths.old) }
         requires room { (n ≤ vec_capacity self.old.table.entries) × (n ≤ vec_capacity self.old.waiting) }
         ensures sound { (m : ℕ) → SoundOver n m self.new }
         ensures marked { Marked n self.new [] }

@@ -67,8 +67,7 @@ impl Work {
         order: &O,
         list: &mut Vec<u16>,
     )
-        requires fits { Fits net.n net.trunks.now lengths.old }
-        requires room { net.n ≤ vec_capacity list.old }
+        requires room { (Fits net.n net.trunks.now lengths.old) × (net.n ≤ vec_capacity list.old) }
         requires sound { Sound net.n net.trunks.now self.old }
         requires marked { Marked net.n self.old [] }
         ensures sound { Sound net.entry.n net.entry.trunks.now self.new }

@@ -30,8 +30,7 @@ pass-requires g c =
     let trunks : c.network-net.result.trunks.now ≡ vec_items b.trunks = c.network-net.ensures.1 ∙ c.deref.ensures.value in
     let long : length c.network-net.result.trunks.now ≡ vec_len b.trunks = ap length trunks ∙ sym b.trunks.ok.0 in
     record {
-      fits = rw (size, trunks) (room_for_pass K b c.args.lengths.now k none);
-      room = omega (arith, size, b.spare.1);
+      room = (rw (size, trunks) (room_for_pass K b c.args.lengths.now k none), omega (arith, size, b.spare.1));
       sound = rw (size, long) (sound_of b runs);
       marked = rw size (marked_of b.n b.work b.tells (no_loop_yet K b c.args.lengths.now k none));
     }

@@ -16,8 +16,8 @@ returns g c =
     let ds : dues table ≡ set (replicate n false) home true = map_home (λ e. e.due) n home (vec_items c.refill.new.items) filled in
     let ws : vec_items c.push_reserved.new.self ≡ home ∷ [] = c.push_reserved.ensures.items ∙ ap (λ xs. xs ++ (home ∷ [])) c.clear.ensures.items in
     record {
-      sound = λ m. holds_home n home c.requires.home m table c.push_reserved.new.self c.refill.ensures.len es ds ws (omega (arith, c.push_reserved.ensures.capacity, c.clear.ensures.capacity, c.requires.room.1));
-      marked = rw (ds, ws) (marks_home n home c.requires.home);
+      sound = λ m. holds_home n home c.requires.home.0 m table c.push_reserved.new.self c.refill.ensures.len es ds ws (omega (arith, c.push_reserved.ensures.capacity, c.clear.ensures.capacity, c.requires.room.1));
+      marked = rw (ds, ws) (marks_home n home c.requires.home.0);
       room = (c.refill.ensures.cap, c.push_reserved.ensures.capacity ∙ c.clear.ensures.capacity);
       does = begun_is g.L.Length.kind n home c.args.lengths.now c.zero.result (seen_all table) (vec_items c.push_reserved.new.self) c.zero.ensures es ws;
     }
