@@ -1,6 +1,6 @@
 -- From what a book holds to what the steps ask, and back.
-use Rattle.std.proofs.Common.{◌≡◌, ℕ, ◌+◌, ◌<◌, ◌≤◌, Bool, true, false, ◌||◌, ltb, [], ◌∷◌, ◌++◌, length, Some, None, vec_items, vec_len, Option, Vec, sym, refl, ◌∙◌, ⊎_elim, arith}
-use Rattle.std.proofs.lemmas.List.{get_or_append_left, get_or_push, nil_from_length}
+use Rattle.std.proofs.Common.{◌≡◌, ℕ, ◌+◌, ◌<◌, ◌≤◌, Bool, true, false, ◌||◌, ltb, [], ◌∷◌, ◌++◌, length, vec_items, vec_len, Vec, sym, refl, ◌∙◌, ⊎_elim, arith}
+use Rattle.std.proofs.lemmas.List.{get_or_append_left, get_or_push}
 use Rattle.std.proofs.lemmas.Bool.{and_parts, and_from, both_ways, cases_lt, ltb-true, lt-ltb}
 use Rattle.std.specs.declared.alloc.Global.{Global}
 use Rattle.routing.specs.declared.Trunk.{Trunk}
@@ -43,28 +43,6 @@ whole_idle n ts ix w list roomy spare laid rests tells names = record {
   tells = tells;
   names = names;
 }
-
--- a work with no entry and none who waits
-module _ (w : Work) (entries : vec_len w.table.entries ≡ 0) (waiting : vec_len w.waiting ≡ 0) where
-  no_entries : vec_items w.table.entries ≡ []
-  no_entries = nil_from_length (vec_items w.table.entries) (sym w.table.entries.ok.0 ∙ entries)
-
-  none_waits : vec_items w.waiting ≡ []
-  none_waits = nil_from_length (vec_items w.waiting) (sym w.waiting.ok.0 ∙ waiting)
-
-  pub rests_empty : (m : ℕ) → Rests m w
-  rests_empty m = (
-    (λ x t e.
-        let k : ◌≡◌ {A = Option ℕ} None (Some t) = rw no_entries at e in
-        let z : ◌≡◌ {A = ℕ} 0 1 = cc in
-        absurd (omega arith)),
-    (λ x h. absurd (both_ways false refl (rw none_waits at h))),
-    (λ x h. absurd (both_ways false refl (rw none_waits at h))),
-    rw none_waits tt,
-  )
-
-  pub tells_empty : (n : ℕ) → Tells n w
-  tells_empty n goes x l = rw (no_entries, none_waits) refl
 
 -- one trunk more
 pub laid_push : (n : ℕ) (ts ts' : Vec Trunk Global) (new : Trunk) → vec_items ts' ≡ vec_items ts ++ (new ∷ []) → vec_len ts' ≡ vec_len ts + 1

@@ -57,10 +57,6 @@ first_none true b i j e = let z : ◌≡◌ {A = ℕ} 0 1 = cc in absurd (omega 
 first_none false true i j e = let z : ◌≡◌ {A = ℕ} 0 1 = cc in absurd (omega arith)
 first_none false false i j e = (refl, refl)
 
-one_none : (a : Bool) (i : ℕ) → cond a (Some i) None ≡ None → a ≡ false
-one_none true i e = let z : ◌≡◌ {A = ℕ} 0 1 = cc in absurd (omega arith)
-one_none false i e = refl
-
 module _ {L : Type 0} (K : Kind L) (b : Book) (ls : List L) where
   abbrev s : State L
   s = state_of b ls

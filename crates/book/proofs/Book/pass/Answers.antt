@@ -1,12 +1,12 @@
-use Rattle.std.proofs.Common.{◌≡◌, ◌≤◌, true, length, vec_items, vec_len, sym, refl, ap, ◌∙◌, arith}
+use Rattle.std.proofs.Common.{◌≡◌, true, length, vec_items, vec_len, sym, refl, ap, ◌∙◌, arith}
 use Rattle.std.proofs.lemmas.Result.{err_from_is_err_and}
 use Rattle.std.proofs.lemmas.Bool.{both_ways}
 use Rattle.running.specs.Work.{SoundOver, run_of}
 use Rattle.book.specs.Answers.{shows}
 use Rattle.book.specs.Held.{has_run, Names}
 use Rattle.book.specs.Refusal.{number_of}
-use Rattle.book.proofs.Keeps.{sound_of, marked_of, rests_from, tells_from}
-use Rattle.book.proofs.RunCalls.{open_has_run, open_for_pass, no_loop_yet, room_for_pass, names_passed, pass_refused, passed_so}
+use Rattle.book.proofs.Keeps.{rests_from, tells_from}
+use Rattle.book.proofs.RunCalls.{open_has_run, open_for_pass, names_passed, pass_refused, passed_so}
 use Rattle.book.proofs.Book.pass.Goals as goal
 
 pub returns-in_err-may_pass : goal.returns-in_err-may_pass
@@ -17,23 +17,6 @@ returns-in_err-may_pass g c =
       owed = λ t o. o;
       refused = λ _. refl;
     })
-
-pub pass-requires : goal.pass-requires
-pass-requires g c =
-    let K = g.L.Length.kind in
-    let b = c.args.self.now in
-    let k = c.args.ticket.now.number in
-    let none = c.in_ok-may_pass.ensures in
-    let runs : has_run b.phase ≡ true = open_has_run b.phase (run_of b.work c.args.lengths.now) (open_for_pass K b c.args.lengths.now k none).0 in
-    let few : b.n ≤ 256 = (b.seated runs).1 in
-    let size = c.network-net.ensures.0 in
-    let trunks : c.network-net.result.trunks.now ≡ vec_items b.trunks = c.network-net.ensures.1 ∙ c.deref.ensures.value in
-    let long : length c.network-net.result.trunks.now ≡ vec_len b.trunks = ap length trunks ∙ sym b.trunks.ok.0 in
-    record {
-      room = (rw (size, trunks) (room_for_pass K b c.args.lengths.now k none), omega (arith, size, b.spare.1));
-      sound = rw (size, long) (sound_of b runs);
-      marked = rw size (marked_of b.n b.work b.tells (no_loop_yet K b c.args.lengths.now k none));
-    }
 
 pub invariant_of-self : goal.invariant_of-self
 invariant_of-self g c =

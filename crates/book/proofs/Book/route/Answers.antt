@@ -18,12 +18,6 @@ returns-then-not-index g c =
     let inside : c.args.x < vec_len b.work.table.entries = omega (arith, below K b c.args.lengths.now c.args.x ok, (b.seated (runs K b c.args.lengths.now c.args.x ok)).2) in
     route_unreached K b c.args.lengths.now c.args.x c.args.into.now ok (ap (λ z. z.reached) (read_seen b.work.table c.args.x c.index.result.now inside c.index.ensures) ∙ c.if-not-index.true)
 
-pub way-way-requires : goal.way-way-requires
-way-way-requires g c = runs g.L.Length.kind c.args.self.now c.args.lengths.now c.args.x c.in_ok-may_read.ensures
-
-pub trail_length-count-requires : goal.trail_length-count-requires
-trail_length-count-requires g c = rw c.way-way.ensures.size (below g.L.Length.kind c.args.self.now c.args.lengths.now c.args.x c.in_ok-may_read.ensures)
-
 pub returns-then-into-count : goal.returns-then-into-count
 returns-then-into-count g c =
     let K = g.L.Length.kind in
