@@ -1,5 +1,5 @@
 -- From what a book holds to what the steps ask, and back.
-use Rattle.std.proofs.Common.{◌≡◌, ℕ, ◌+◌, ◌<◌, ◌≤◌, Bool, true, false, ◌||◌, ltb, [], ◌∷◌, ◌++◌, length, vec_items, vec_len, Vec, sym, refl, ◌∙◌, ⊎_elim, arith}
+use Rattle.std.proofs.Common.{◌≡◌, ℕ, ◌+◌, ◌<◌, ◌≤◌, Bool, true, false, ◌||◌, ltb, [], ◌∷◌, ◌++◌, length, vec_items, vec_len, Vec, refl, ◌∙◌, ⊎_elim, arith}
 use Rattle.std.proofs.lemmas.List.{get_or_append_left, get_or_push}
 use Rattle.std.proofs.lemmas.Bool.{and_parts, and_from, both_ways, cases_lt, ltb-true, lt-ltb}
 use Rattle.std.specs.declared.alloc.Global.{Global}
@@ -13,8 +13,7 @@ use Rattle.running.specs.declared.Work.{Work}
 use Rattle.running.specs.Work.{SoundOver, Marked, names_inside}
 use Rattle.book.specs.declared.Phase.{Phase}
 use Rattle.book.specs.declared.Phase.TheVariants.{Idle}
-use Rattle.book.specs.declared.Book.{Book}
-use Rattle.book.specs.Held.{has_run, Roomy, Spare, Laid, Seated, Indexed, Rests, Tells, Calm, Names}
+use Rattle.book.specs.Held.{Roomy, Spare, Laid, Seated, Indexed, Rests, Tells, Calm, Names}
 
 -- all that a book holds
 abbrev pub Whole : Phase → ℕ → Vec Trunk Global → Index → Work → Vec ℕ Global → Type 0
@@ -84,23 +83,6 @@ names_calm n ts w free = names_none n (vec_len ts) w.verdict free
 or_false : (b : Bool) → (b || false) ≡ b
 or_false true = refl
 or_false false = refl
-
--- what the steps ask of a run
-pub sound_of : (b : Book) → has_run b.phase ≡ true → SoundOver b.n (vec_len b.trunks) b.work
-sound_of b runs = record {
-  entries = (b.seated runs).2;
-  arrivals = b.rests.0;
-  waits = b.rests.1;
-  reached = b.rests.2;
-  once = b.rests.3;
-  room = let few = (b.seated runs).1 in omega (arith, b.spare.0);
-}
-
-pub marked_of : (n : ℕ) (w : Work) → Tells n w → is_loop w.verdict ≡ false → Marked n w []
-marked_of n w tells goes = record {
-  due = λ x l. tells goes x l ∙ sym (or_false (has x (vec_items w.waiting)));
-  apart = λ x h. absurd (both_ways false refl h);
-}
 
 -- what a book holds, from what the steps say of its run
 pub rests_from : (n m : ℕ) (w : Work) → SoundOver n m w → Rests m w

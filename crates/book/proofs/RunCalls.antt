@@ -1,15 +1,14 @@
 -- What the calls of a run promise, from the checks that they made and the steps that they took.
-use Rattle.std.proofs.Common.{◌≡◌, ℕ, ◌+◌, ◌<◌, ◌≤◌, true, false, not, ◌||◌, eqb, ltb, List, [], length, Some, None, vec_items, vec_len, Option, sym, refl, ap, ◌∙◌, subst, arith}
-use Rattle.std.proofs.lemmas.Bool.{both_ways, not-false, ltb-false, not_from_true, or_from, ne_eqb, eq-eqb, le-ltb}
+use Rattle.std.proofs.Common.{◌≡◌, ℕ, ◌+◌, ◌<◌, true, false, not, ◌||◌, eqb, ltb, List, [], length, Some, None, vec_items, vec_len, Option, sym, refl, ap, ◌∙◌, subst, arith}
+use Rattle.std.proofs.lemmas.Bool.{both_ways, not-false, not_from_true, or_from, ne_eqb, eq-eqb, le-ltb}
 use Rattle.std.proofs.lemmas.List.{length-map}
 use Rattle.routing.specs.declared.Trunk.{Trunk}
-use Rattle.routing.specs.declared.Verdict.{Verdict}
 use Rattle.routing.specs.Kind.{Kind}
 use Rattle.routing.specs.Lists.{has}
-use Rattle.routing.specs.Rules.{Run, begun, passed, is_loop}
+use Rattle.routing.specs.Rules.{Run, begun, passed}
 use Rattle.routing.specs.Orders.{Meaning}
 use Rattle.routing.specs.History.{State, step, began, pass, finished, abandoned, running}
-use Rattle.routing.specs.Refusals.{is_running, works, is_working}
+use Rattle.routing.specs.Refusals.{is_running, is_working}
 use Rattle.routing.specs.Calls.{Answer, begin, do_pass, finish, abandon, refused, done, shown, said, refusals, refusal, Answers}
 use Rattle.routing.specs.Does.{Serves, applied}
 use Rattle.routing.proofs.Does.{serves_refused, serves_accepted}
@@ -42,16 +41,6 @@ module _ {L : Type 0} where
   pub open_has_run : (p : Phase) (r : Run L) → is_running (phase_of p r) ≡ true → has_run p ≡ true
   open_has_run p r e = ap has_run (home_of p r e).1
 
-  working_no_loop : (p : Phase) (r : Run L) → is_working (phase_of p r) ≡ true → is_loop r.verdict ≡ false
-  working_no_loop Idle r e = absurd (both_ways false refl e)
-  working_no_loop (Running home) r e = go r.verdict e
-    where
-      go : (v : Verdict) → works v ≡ true → is_loop v ≡ false
-      go Verdict.Working e = refl
-      go Verdict.Settled e = refl
-      go (Verdict.Looped v t) e = absurd (both_ways false refl e)
-  working_no_loop (Standing home) r e = absurd (both_ways false refl e)
-
 module _ {L : Type 0} (K : Kind L) (b : Book) (ls : List L) where
   abbrev s : State L
   s = state_of b ls
@@ -69,12 +58,6 @@ module _ {L : Type 0} (K : Kind L) (b : Book) (ls : List L) where
   -- a run is open where a ticket was accepted
   pub open_for_pass : (k : ℕ) → None ≡ refusal K s (do_pass k) → (is_running s.phase ≡ true) × (is_working s.phase ≡ true)
   open_for_pass k none = let q = none_of (refusals K s (do_pass k)) (sym none) in (not-false (is_running s.phase) q.1.1.1.0, not-false (is_working s.phase) q.1.1.1.1.0)
-
-  pub room_for_pass : (k : ℕ) → None ≡ refusal K s (do_pass k) → b.n + length (vec_items b.trunks) ≤ length ls
-  room_for_pass k none = let q = none_of (refusals K s (do_pass k)) (sym none) in ltb-false (length ls) (b.n + length (vec_items b.trunks)) q.1.0
-
-  pub no_loop_yet : (k : ℕ) → None ≡ refusal K s (do_pass k) → is_loop b.work.verdict ≡ false
-  no_loop_yet k none = working_no_loop b.phase (run_of b.work ls) (open_for_pass k none).1
 
   -- a pass over trunks that are the book's names no loop but of the book
   pub names_passed : has_run b.phase ≡ true → (ts : List Trunk) → ts ≡ vec_items b.trunks → (a : List ℕ) (w : Work) (ls' : List L) → Meaning K b.n ts (run_of b.work ls) a
