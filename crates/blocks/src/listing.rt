@@ -43,7 +43,7 @@ impl<L: Length + Printed> Listing<'_, L> {
     fn print_loop(&self, out: &mut String) -> Result<(), AllocError>
         ensures { OnOk result (Adds (loop_read L.kind L.printed (listed self.now)) out.old out.new) }
     {
-        // No loop has more trunks than a book may have exchanges.
+        // The book writes a loop into its caller's list; none has more trunks than a book may have exchanges.
         let mut trunks = [0u16; MOST_EXCHANGES];
         let count = self
             .book

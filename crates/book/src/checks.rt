@@ -125,12 +125,11 @@ impl Book {
         self.may_abandon(lengths, ticket)?;
         match self.work.verdict {
             Verdict::Working => Ok(()),
-            Verdict::Settled => Err(Refusal::RunOver),
-            Verdict::Looped(_, _) => Err(Refusal::RunOver),
+            Verdict::Settled | Verdict::Looped(_, _) => Err(Refusal::RunOver),
         }
     }
 
-    // How the run that may be finished ended.
+    // How the run that may be finished ended. By its own match: through `progress` it would be two.
     pub(crate) fn may_finish<L: Length>(
         &self,
         lengths: &[L],

@@ -40,7 +40,8 @@ pub struct Space {
     ghost calm: { Calm work },
 }
 
-// Trunks, and the run over them. The lengths are the caller's.
+// Trunks, and the run over them. The lengths are the caller's, who shows them at every call. The lists of a `Space` stand
+// here one by one, since every call and most facts name them.
 #[derive(Drop)]
 pub struct Book {
     number: u16,

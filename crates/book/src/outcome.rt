@@ -1,4 +1,4 @@
-// How a run stands after a pass.
+// How a run stands after a pass. The rules name each case with its two counts, so they stand in each.
 #[derive(Clone, Copy, PartialEq, Eq, Debug)]
 pub enum Progress {
     Working { passes: u64, scans: u64 },

@@ -41,8 +41,7 @@ impl Book {
             return Err(Refusal::NoFinishedRun);
         };
         match self.work.verdict {
-            Verdict::Working => Err(Refusal::RunIsSettled),
-            Verdict::Settled => Err(Refusal::RunIsSettled),
+            Verdict::Working | Verdict::Settled => Err(Refusal::RunIsSettled),
             Verdict::Looped(v, t) => Ok((v, t)),
         }
     }
@@ -80,7 +79,8 @@ impl Book {
         Ok(self.work.table.entries[x as usize].arriving)
     }
 
-    // Writes the trunks of the cheapest walk from home to `x`, and answers how many.
+    // Writes the trunks of the cheapest walk from home to `x`, and answers how many. The list is the caller's: no reading
+    // takes memory.
     pub fn route<L: Length>(
         &self,
         lengths: &[L],

@@ -53,17 +53,16 @@ fn ends(dice: &mut Dice, shape: Shape, n: u16) -> (u16, u16)
 {
     let a = dice.below(n as u64) as u16;
     let b = dice.below(n as u64) as u16;
-    let near = if a > 0 { a - 1 } else { 0 };
+    let near = a.saturating_sub(1);
     match shape {
         Shape::Random => (a, b),
-        Shape::Chain => (a, near),
+        Shape::Chain | Shape::Pairs => (a, near),
         Shape::Grid => {
             let next = a.saturating_add(if b % 2 == 0 { 1 } else { 16 });
             (a, if next < n { next } else { a })
         }
         Shape::Parallel => (a % 4, b % 4),
         Shape::Rounds => (a, a),
-        Shape::Pairs => (a, near),
         Shape::Islands => (a, if (a ^ b) & 1 == 0 { b } else { a }),
     }
 }

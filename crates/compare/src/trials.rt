@@ -133,7 +133,7 @@ impl<L: Plain> Trial<L> {
         Ok(())
     }
 
-    // The route to `x` is a walk from home, of this length.
+    // The route to `x` is a walk from home, of this length. The book writes it into its caller's list.
     fn check_route(&self, x: u16, length: Parts) -> Result<(), Difference> {
         let mut trunks = [0u16; MOST_EXCHANGES];
         let count = self.book.route(&self.lengths, x, &mut trunks)?;

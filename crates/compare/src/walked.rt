@@ -33,6 +33,7 @@ pub fn walked<L: Plain>(links: &[Link], start: u16, trunks: &[u16]) -> Option<Wa
 
 // Whether no two of these trunks leave the same exchange.
 pub fn apart(links: &[Link], trunks: &[u16]) -> bool {
+    // As long for every book: a list of the book's own length would want memory for no gain.
     let mut left = [false; MOST_EXCHANGES];
     for t in trunks {
         let Some(link) = links.get(*t as usize) else {

@@ -2,6 +2,7 @@ use super::stories::Example;
 use book::outcome::Ending;
 use book::refusal::Refusal;
 use lengths::charge::Charge;
+use printing::printed::OrDash;
 use replay::{Answer, Line, Read};
 use std::io;
 
@@ -19,17 +20,7 @@ pub fn show_refusal(rt: &impl Print, what: &str, refusal: Refusal) -> io::Result
 }
 
 fn show_line(rt: &impl Print, x: usize, line: Line<Charge>) -> io::Result<()> {
-    match line.charge {
-        None => print!(rt; "  {x} -")?,
-        Some(label) => {
-            let mills = label.mills();
-            print!(rt; "  {x} {mills}")?
-        }
-    }
-    match line.arrival {
-        None => println!(rt; " -"),
-        Some(t) => println!(rt; " {t}"),
-    }
+    println!(rt; "  {x} {} {}", OrDash(line.charge), OrDash(line.arrival))
 }
 
 // A line for each exchange: its charge, and the trunk by which a call arrives.

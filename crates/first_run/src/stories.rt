@@ -25,7 +25,7 @@ pub struct Example {
     pub lengths: [Charge; PLACES],
 }
 
-// Gives back the ticket of a run that is open.
+// Gives back the ticket of a run that is open. No call of the book's own: it asks, and no public call asks anything.
 fn give_back(book: &mut Book, lengths: &[Charge], ticket: Ticket)
     requires { Owed ticket book.old (length lengths.now) }
 {

@@ -15,6 +15,7 @@ pub struct Charge {
 }
 
 impl Charge {
+    // By this name, not `From`: a number is no charge until its unit is said.
     pub fn of(mills: i32) -> Charge
         ensures { charge.value result ≡ mills }
     {

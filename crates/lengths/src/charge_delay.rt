@@ -16,6 +16,7 @@ pub struct ChargeDelay {
 }
 
 impl ChargeDelay {
+    // By this name, not `From`: two numbers are no length until their units are said.
     pub fn of(mills: i32, delay: u16) -> ChargeDelay
         ensures { charge_delay.value result ≡ (mills, delay) }
     {

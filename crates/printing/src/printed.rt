@@ -34,7 +34,7 @@ impl Printed for u16 {
 
 // A value, or `-` where there is none.
 #[derive(Clone, Copy)]
-pub(crate) struct OrDash<T>(pub(crate) Option<T>);
+pub struct OrDash<T>(pub Option<T>);
 
 impl<T: Printed> Display for OrDash<T> {
     ghost output = { λ x. Some (or_dash T.printed x.0) };

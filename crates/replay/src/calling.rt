@@ -96,7 +96,7 @@ fn abandon<L: Length>(
     }
 }
 
-// Makes a call, with the ticket that is held. A struct of the book, the lent list and the ticket was tried: the proof
+// Makes a call, with the ticket that is held. By a `match`: the calls are an enum, and each arm is the call itself. A struct of the book, the lent list and the ticket was tried: the proof
 // does not know what the list holds after a loop over it.
 pub(crate) fn make<L: Length, O: ScanOrder<L>>(
     book: &mut Book,

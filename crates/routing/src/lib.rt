@@ -19,6 +19,7 @@ pub trait Length: Copy {
     fn add(self, other: Self) -> Self
         ensures { result ≡ kind.add self other };
 
+    // A method, since what is compared are the exact values.
     fn not_above(self, other: Self) -> bool
         ensures { result ≡ kind.not_above (kind.value self) (kind.value other) };
 

@@ -1,5 +1,5 @@
 -- The table of entries as the code holds it, and what the rules see of it.
-use Rattle.std.specs.Prelude.{ℕ, Bool, true, false, List, map, Some, vec_items, slice_index_or}
+use Rattle.std.specs.Prelude.{◌≡◌, ℕ, Bool, true, false, List, map, Some, vec_items, vec_len, vec_capacity, slice_index_or}
 use Rattle.routing.specs.Rules as rules
 use Rattle.running.specs.declared.table.Entry.{Entry}
 use Rattle.running.specs.declared.table.Table.{Table}
@@ -23,3 +23,7 @@ is_due b x = slice_index_or (dues b) x false
 -- reached by trunk t
 abbrev pub arrived : ℕ → rules.Entry
 arrived t = record { reached = true; arriving = Some t }
+
+-- as many entries, and room for as many, as before
+abbrev pub SameSize : Table → Table → Type 0
+SameSize b b' = (vec_len b'.entries ≡ vec_len b.entries) × (vec_capacity b'.entries ≡ vec_capacity b.entries)

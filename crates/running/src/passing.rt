@@ -5,7 +5,7 @@ ghost use Rattle.routing.specs.Rules.{Run, is_loop, none_left, passed};
 ghost use Rattle.routing.specs.declared.Verdict.TheVariants.{Working as working, Settled as settled};
 ghost use Rattle.routing.specs.Orders.{Meaning};
 ghost use Rattle.running.specs.Network.{Fits};
-ghost use Rattle.running.specs.Table.{is_due, seen_all};
+ghost use Rattle.running.specs.Table.{SameSize, is_due, seen_all};
 ghost use Rattle.running.specs.View.{run_in};
 ghost use Rattle.running.specs.Work.{run_of, Sound, Marked, SameRoom};
 
@@ -34,8 +34,7 @@ impl Table {
         requires { (x : ℕ) → has x list.now ≡ true → x < vec_len self.old.entries }
         ensures seen { seen_all self.new ≡ seen_all self.old }
         ensures dues { (x : ℕ) → is_due self.new x ≡ (if has x list.now then due else is_due self.old x) }
-        ensures len { vec_len self.new.entries ≡ vec_len self.old.entries }
-        ensures cap { vec_capacity self.new.entries ≡ vec_capacity self.old.entries }
+        ensures size { SameSize self.old self.new }
     {
         for v in list {
             self.mark(*v, due);

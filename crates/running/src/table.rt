@@ -1,6 +1,6 @@
 ghost use Rattle.std.specs.Prelude.{◌≡◌, ℕ, ◌<◌, true, cond, not, vec_len, vec_capacity, slice_set};
 ghost use Rattle.routing.specs.Lists.{has};
-ghost use Rattle.running.specs.Table.{arrived, dues, is_due, seen_all};
+ghost use Rattle.running.specs.Table.{SameSize, arrived, dues, is_due, seen_all};
 
 // What a run knows of an exchange. Its label stands in the caller's length list; `reached` tells whether it has one.
 // `due`: it is in the waiting list, or its turn in this pass is to come.
@@ -24,8 +24,7 @@ impl Table {
         ensures joins { result ≡ not (is_due self.old w) }
         ensures seen { seen_all self.new ≡ slice_set (seen_all self.old) w (arrived t) }
         ensures dues { dues self.new ≡ slice_set (dues self.old) w true }
-        ensures len { vec_len self.new.entries ≡ vec_len self.old.entries }
-        ensures cap { vec_capacity self.new.entries ≡ vec_capacity self.old.entries }
+        ensures size { SameSize self.old self.new }
     {
         let joins = !self.entries[w as usize].due;
         self.entries[w as usize] = Entry {
@@ -41,8 +40,7 @@ impl Table {
         requires { v < vec_len self.old.entries }
         ensures seen { seen_all self.new ≡ seen_all self.old }
         ensures dues { dues self.new ≡ slice_set (dues self.old) v due }
-        ensures len { vec_len self.new.entries ≡ vec_len self.old.entries }
-        ensures cap { vec_capacity self.new.entries ≡ vec_capacity self.old.entries }
+        ensures size { SameSize self.old self.new }
     {
         self.entries[v as usize].due = due;
     }

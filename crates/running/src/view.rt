@@ -22,7 +22,8 @@ impl<L: Length> View<'_, L> {
     ghost use Rattle.routing.specs.Rules.{improving, sum_by};
     ghost use Rattle.running.specs.View.{run_in};
 
-    // The label of `v` plus the length of trunk `t`.
+    // The label of `v` plus the length of trunk `t`. An exchange and a trunk, as the rules have them: a struct of the two would
+    // be made for one call each.
     pub fn sum_by(&self, v: u16, t: u16) -> L
         requires { (v < self.now.net.n) × (t < length self.now.net.trunks.now) }
         ensures { result ≡ sum_by L.Length.kind self.now.net.n self.now.net.trunks.now (run_in self.now) v t }

@@ -10,7 +10,7 @@ use orders::topological_order::Topological;
 use whole_run::running_out::run_whole;
 use worked::worked_examples;
 
-// From, to and charge of each trunk.
+// From, to and charge of each trunk; `first_run` has them too, and no crate is worth five numbers.
 const TRUNKS: [(u16, u16, i32); 5] = [(0, 2, 7), (0, 1, 4), (1, 2, -2), (2, 3, 3), (3, 1, 0)];
 
 // How many exchanges make a book.

@@ -14,6 +14,7 @@ use tape::on_tape::TapeLength;
 use tape::records::{Record, Switch};
 
 // Makes the call of a record. An accepted home answers its run.
+// `form_of` is given its four members one by one: for one that holds them all each answer would be carried over a law.
 // The book's calls take the lengths apart from the book, so a struct of both would be taken apart in each arm.
 pub(crate) fn apply<L: TapeLength + Printed>(
     book: &mut Book,

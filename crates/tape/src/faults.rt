@@ -1,9 +1,8 @@
-ghost use Rattle.std.specs.Prelude.{◌≡◌, Some, decimal};
+ghost use Rattle.std.specs.Prelude.{◌≡◌};
 ghost use Rattle.tape.specs.Faults.{layer_number, layer_of, number_of as fault_number};
 ghost use Rattle.tape.specs.declared.faults.RecordFault.TheVariants.{Tape as of_tape, Content as of_content, Book as of_book};
 
 use book::refusal::Refusal;
-use std::fmt;
 
 // What can be wrong with the bytes.
 #[derive(Clone, Copy, PartialEq, Eq, Debug)]
@@ -55,20 +54,12 @@ impl From<Refusal> for RecordFault {
     }
 }
 
-// Which layer finds a fault. It is shown by its number.
+// Which layer finds a fault.
 #[derive(Clone, Copy, PartialEq, Eq, Debug)]
 pub enum Layer {
     Tape = 1,
     Record = 2,
     Book = 3,
-}
-
-impl fmt::Display for Layer {
-    ghost output = { λ layer. Some (decimal (layer_number layer)) };
-
-    fn fmt<W: fmt::Write>(&self, f: &mut fmt::Formatter<W>) -> fmt::Result {
-        write!(f, "{}", *self as u16)
-    }
 }
 
 impl RecordFault {

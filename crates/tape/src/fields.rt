@@ -18,7 +18,7 @@ pub fn write_field(value: u64, into: &mut [u8])
     ensures { into.new ≡ bytes_of (length into.old) value }
 {
     let mut rest = value;
-    // Tried with `into.iter_mut().rev()`: no proof can know what was written through an adapter of `iter_mut`.
+    // By number: of the items of a reversed `iter_mut` a proof knows nothing.
     for i in (0..into.len()).rev() {
         into[i] = (rest % 256) as u8;
         rest /= 256;

@@ -37,7 +37,7 @@ fn shape_at(tape: &[u8], at: usize) -> Result<Shape, RecordFault>
     Ok(Shape::try_from(*map)?)
 }
 
-// The tape from `at` on, if it has `count` bytes there.
+// The tape from `at` on, if it has `count` bytes there: a record may be cut short, so what is asked is not what there is.
 fn bytes_from<'a>(tape: &'a [u8], at: usize, count: usize) -> Result<&'a [u8], TapeFault>
     requires { at ≤ length tape.now }
     ensures { MatchResult result (λ bytes. (bytes.now ≡ drop at tape.now) × (count ≤ length tape.now - at)) (λ f. (f ≡ cut_short) × (length tape.now - at < count)) }

@@ -22,11 +22,11 @@ scan-requires g c = record {
   inside = c.requires.once.1 _ (has_at c.args.answered.now c.loop-v.v-index c.loop-v-test.true);
   fits = omega (arith, c.requires.fits);
   sound = placed_sound g.L.Length.kind c.args.net.n c.args.net.trunks.now c.args.answered.now c.args.self.now c.args.lengths.now c.loop-v.v-index c.loop-v.self c.loop-v.lengths c.loop-v.invariant c.loop-v-test.true c.requires.once.0
-      c.mark.new.self c.mark.ensures.seen c.mark.ensures.dues c.mark.ensures.len c.mark.ensures.cap;
+      c.mark.new.self c.mark.ensures.seen c.mark.ensures.dues c.mark.ensures.size.0 c.mark.ensures.size.1;
 }
 
 pub loop-v-preserved : goal.loop-v-preserved
 loop-v-preserved g c =
     turning_on g.L.Length.kind c.args.net.n c.args.net.trunks.now c.args.answered.now c.args.self.now c.args.lengths.now c.loop-v.v-index c.loop-v.self c.loop-v.lengths c.loop-v.invariant c.loop-v-test.true c.requires.once.0
-    c.mark.new.self c.mark.ensures.seen c.mark.ensures.dues c.mark.ensures.len c.mark.ensures.cap
+    c.mark.new.self c.mark.ensures.seen c.mark.ensures.dues c.mark.ensures.size.0 c.mark.ensures.size.1
     (c.requires.once.1 _ (has_at c.args.answered.now c.loop-v.v-index c.loop-v-test.true)) (sym c.if-found_loop.ensures) c.scan.new.self c.scan.new.lengths c.scan.ensures.sound c.scan.ensures.room c.scan.ensures.does

@@ -21,13 +21,13 @@ returns-then-arrive g c =
     let ws = c.push_reserved.new.self in
     let items = c.push_reserved.ensures.items in
     record {
-      sound = joins_sound c.args.net.n c.args.net.trunks.now c.args.self.now c.args.t c.requires.sound known (c.args.net.ends.1 c.args.t known) c.arrive.new.self e.seen e.dues e.len ws items free c.push_reserved.ensures.capacity;
-      room = (e.cap, c.push_reserved.ensures.capacity);
+      sound = joins_sound c.args.net.n c.args.net.trunks.now c.args.self.now c.args.t c.requires.sound known (c.args.net.ends.1 c.args.t known) c.arrive.new.self e.seen e.dues e.size.0 ws items free c.push_reserved.ensures.capacity;
+      room = (e.size.1, c.push_reserved.ensures.capacity);
       does = λ later h. (
-        joins_marked c.args.net.n c.args.net.trunks.now c.args.self.now c.args.t c.requires.sound known (c.args.net.ends.1 c.args.t known) c.arrive.new.self e.seen e.dues e.len ws items free later h,
-        moved_run c.args.net.n c.args.net.trunks.now c.args.self.now c.args.t c.requires.sound known (c.args.net.ends.1 c.args.t known) c.arrive.new.self e.seen e.dues e.len g.L.Length.kind c.args.lengths.now c.args.v c.in-Some.sum (vec_items ws) later
+        joins_marked c.args.net.n c.args.net.trunks.now c.args.self.now c.args.t c.requires.sound known (c.args.net.ends.1 c.args.t known) c.arrive.new.self e.seen e.dues e.size.0 ws items free later h,
+        moved_run c.args.net.n c.args.net.trunks.now c.args.self.now c.args.t c.requires.sound known (c.args.net.ends.1 c.args.t known) c.arrive.new.self e.seen e.dues e.size.0 g.L.Length.kind c.args.lengths.now c.args.v c.in-Some.sum (vec_items ws) later
             c.in-Some.ensures (sym c.if-meets.ensures)
-            (joins_waiting c.args.net.n c.args.net.trunks.now c.args.self.now c.args.t c.requires.sound known (c.args.net.ends.1 c.args.t known) c.arrive.new.self e.seen e.dues e.len ws items free later h),
+            (joins_waiting c.args.net.n c.args.net.trunks.now c.args.self.now c.args.t c.requires.sound known (c.args.net.ends.1 c.args.t known) c.arrive.new.self e.seen e.dues e.size.0 ws items free later h),
       );
     }
 
@@ -38,12 +38,12 @@ returns-else-arrive g c =
     let busy : is_due c.args.self.now.table head ≡ true = not-false (is_due c.args.self.now.table head) (sym c.if-arrive.ensures.joins) in
     let known = c.requires.sizes.1 in
     record {
-      sound = stays_sound c.args.net.n c.args.net.trunks.now c.args.self.now c.args.t c.requires.sound known (c.args.net.ends.1 c.args.t known) c.arrive.new.self e.seen e.dues e.len;
-      room = (e.cap, refl);
+      sound = stays_sound c.args.net.n c.args.net.trunks.now c.args.self.now c.args.t c.requires.sound known (c.args.net.ends.1 c.args.t known) c.arrive.new.self e.seen e.dues e.size.0;
+      room = (e.size.1, refl);
       does = λ later h. (
-        stays_marked c.args.net.n c.args.net.trunks.now c.args.self.now c.args.t c.requires.sound known (c.args.net.ends.1 c.args.t known) c.arrive.new.self e.seen e.dues e.len busy later h,
-        moved_run c.args.net.n c.args.net.trunks.now c.args.self.now c.args.t c.requires.sound known (c.args.net.ends.1 c.args.t known) c.arrive.new.self e.seen e.dues e.len g.L.Length.kind c.args.lengths.now c.args.v c.in-Some.sum (vec_items c.args.self.now.waiting) later
+        stays_marked c.args.net.n c.args.net.trunks.now c.args.self.now c.args.t c.requires.sound known (c.args.net.ends.1 c.args.t known) c.arrive.new.self e.seen e.dues e.size.0 busy later h,
+        moved_run c.args.net.n c.args.net.trunks.now c.args.self.now c.args.t c.requires.sound known (c.args.net.ends.1 c.args.t known) c.arrive.new.self e.seen e.dues e.size.0 g.L.Length.kind c.args.lengths.now c.args.v c.in-Some.sum (vec_items c.args.self.now.waiting) later
             c.in-Some.ensures (sym c.if-meets.ensures)
-            (stays_waiting c.args.net.n c.args.net.trunks.now c.args.self.now c.args.t c.requires.sound known (c.args.net.ends.1 c.args.t known) c.arrive.new.self e.seen e.dues e.len busy later h),
+            (stays_waiting c.args.net.n c.args.net.trunks.now c.args.self.now c.args.t c.requires.sound known (c.args.net.ends.1 c.args.t known) c.arrive.new.self e.seen e.dues e.size.0 busy later h),
       );
     }

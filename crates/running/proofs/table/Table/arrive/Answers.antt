@@ -7,6 +7,5 @@ returns c = record {
   joins = ap not (sym (read_due c.args.self.now c.args.w c.index.result.now c.requires c.index.ensures));
   seen = seen_set c.args.self.now c.args.w _;
   dues = dues_set c.args.self.now c.args.w _;
-  len = refl;
-  cap = refl;
+  size = (refl, refl);
 }

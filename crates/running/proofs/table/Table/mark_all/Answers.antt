@@ -18,6 +18,6 @@ loop-v-preserved c =
       c.mark.ensures.seen ∙ c.loop-v.invariant.0,
       subst (λ ds. GivenFirst (dues c.args.self.now) c.args.list.now c.args.due (c.loop-v.v-index + 1) ds) (sym c.mark.ensures.dues)
           (given_more (dues c.args.self.now) c.args.list.now c.args.due (dues c.loop-v.self) c.loop-v.v-index c.loop-v-test.true long c.loop-v.invariant.1),
-      c.mark.ensures.len ∙ c.loop-v.invariant.2,
-      c.mark.ensures.cap ∙ c.loop-v.invariant.3,
+      c.mark.ensures.size.0 ∙ c.loop-v.invariant.2,
+      c.mark.ensures.size.1 ∙ c.loop-v.invariant.3,
     )
