@@ -19,7 +19,9 @@ use tape::on_tape::TapeLength;
 fn places<L: Length>(heap: Global, n: u16) -> Result<Vec<L>, AllocError>
     ensures { IfOk result (λ v. v.items ≡ replicate (n + 4096) L.kind.none) }
 {
-    Ok(vec![in heap; L::zero(); n as usize + MOST_TRUNKS]?)
+    let mut lengths = Vec::new(heap);
+    lengths.resize(n as usize + MOST_TRUNKS, L::zero())?;
+    Ok(lengths)
 }
 
 // Tells the records of a tape whose head says `n`, of this kind of length.
