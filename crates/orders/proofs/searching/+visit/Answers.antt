@@ -3,20 +3,12 @@ use Rattle.std.proofs.lemmas.List.{length-set, drop_more, drop_all}
 use Rattle.routing.specs.declared.Trunk.{Trunk}
 use Rattle.running.specs.View.{run_in}
 use Rattle.running.proofs.Indexes.{leaving_at}
-use Rattle.orders.proofs.Visits.{going_start, going_skip, going_visit, unmarked_set, visit_done}
+use Rattle.orders.proofs.Visits.{going_skip, going_visit, unmarked_set, visit_done}
 use Rattle.orders.proofs.searching.+visit.Goals as goal
 use Rattle.orders.proofs.searching.+visit.Goals.{then-not-marks-w+then-follows, else-not-marks-w, else-not-marks-w-via-then-not-marks-w+else-follows, else-not-marks-w-via-else-not-marks-w}
 
-pub loop-t-init : goal.loop-t-init
-loop-t-init g t c = rw c.leaving-t-items.ensures (going_start g.L.Length.kind c.args.view.now.net.n c.args.view.now.net.trunks.now (run_in c.args.view.now) c.args.v (set c.args.marks.now c.args.v true) c.args.list.now)
-
 pub bounds-view-t : goal.bounds-view-t
 bounds-view-t g t c = leaving_at c.args.view.now.net.trunks.now c.args.v c.leaving-t-items.result.now c.loop-t.t-index c.leaving-t-items.ensures c.loop-t-test.true
-
-pub bounds-marks-w : goal.bounds-marks-w
-bounds-marks-w g t c =
-    let known = leaving_at c.args.view.now.net.trunks.now c.args.v c.leaving-t-items.result.now c.loop-t.t-index c.leaving-t-items.ensures c.loop-t-test.true in
-    omega (arith, c.args.view.now.net.ends.1 _ known, c.loop-t.auto.marks, length-set c.args.marks.now c.args.v true, c.requires.sizes.1)
 
 pub follows-requires : goal.follows-requires
 follows-requires g t c = (c.requires.sizes.0, leaving_at c.args.view.now.net.trunks.now c.args.v c.leaving-t-items.result.now c.loop-t.t-index c.leaving-t-items.ensures c.loop-t-test.true)
