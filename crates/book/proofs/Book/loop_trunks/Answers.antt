@@ -2,24 +2,13 @@ use Rattle.std.proofs.Common.{◌++◌, length, drop, Some, ap, ◌∙◌, arith
 use Rattle.std.proofs.lemmas.List.{length-take-le}
 use Rattle.std.proofs.lemmas.Result.{err_from_is_err_and}
 use Rattle.routing.specs.Rules.{trunk}
-use Rattle.book.proofs.ReadCalls.{loop_runs, loop_at, loop_by, way_back, loop_denied, loop_short, loop_written}
+use Rattle.book.proofs.ReadCalls.{way_back, loop_denied, loop_short, loop_written}
 use Rattle.book.proofs.Book.loop_trunks.Goals as goal
 
 pub returns-in_err-v : goal.returns-in_err-v
 returns-in_err-v g c =
     let p = err_from_is_err_and c.from_residual.result c.from_residual.ensures.1 in
     rw (p.1, p.2) (loop_denied g.L.Length.kind c.args.self.now c.args.lengths.now c.args.into.now c.in_err-v.field-0.0 c.in_err-v.ensures.refuses)
-
-pub way-way-requires : goal.way-way-requires
-way-way-requires g c = let may = c.in_ok-v.ensures in loop_runs g.L.Length.kind c.args.self.now c.args.lengths.now c.args.into.now may.refuses c.in_ok-v.v c.in_ok-v.t may.names
-
-pub bounds-way-t : goal.bounds-way-t
-bounds-way-t g c = let may = c.in_ok-v.ensures in omega (arith, ap length c.way-way.ensures.trunks, c.args.self.now.trunks.ok.0, loop_by g.L.Length.kind c.args.self.now c.args.lengths.now c.args.into.now may.refuses c.in_ok-v.v c.in_ok-v.t may.names)
-
-pub trail_length-count-requires : goal.trail_length-count-requires
-trail_length-count-requires g c =
-    let may = c.in_ok-v.ensures in
-    rw c.way-way.ensures.size (loop_at g.L.Length.kind c.args.self.now c.args.lengths.now c.args.into.now may.refuses c.in_ok-v.v c.in_ok-v.t may.names)
 
 pub returns-then-into-count : goal.returns-then-into-count
 returns-then-into-count g c =
