@@ -28,8 +28,8 @@ impl Add for Parts {
 impl From<(i32, u16)> for Parts {
     fn from((mills, delay): (i32, u16)) -> Parts {
         Parts {
-            mills: mills as i64,
-            delay: delay as u64,
+            mills: i64::from(mills),
+            delay: u64::from(delay),
         }
     }
 }

@@ -20,7 +20,7 @@ impl Charge {
         ensures { charge.value result ≡ mills }
     {
         Charge {
-            mills: mills as i64,
+            mills: i64::from(mills),
         }
     }
 

@@ -21,8 +21,8 @@ impl ChargeDelay {
         ensures { charge_delay.value result ≡ (mills, delay) }
     {
         ChargeDelay {
-            mills: mills as i64,
-            delay: delay as u64,
+            mills: i64::from(mills),
+            delay: u64::from(delay),
         }
     }
 

@@ -38,7 +38,7 @@ pub(crate) fn write_pair(value: u16, into: &mut [u8], at: usize)
     requires { at + 2 ≤ length into.old }
     ensures { into.new ≡ put into.old at (bytes_of 2 value) }
 {
-    write_field(value as u64, &mut into[at..at + 2]);
+    write_field(u64::from(value), &mut into[at..at + 2]);
 }
 
 // Writes these bytes at `at`.
