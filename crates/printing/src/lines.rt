@@ -17,7 +17,8 @@ pub fn print_first(
     writeln!(out, "home {home} {word} passes {passes} scans {scans}")
 }
 
-// The line of a fault: its layer, its number and the offset of its place.
+// The line of a fault: its layer, its number and the offset of its place. The layer is a number here: printing knows no
+// tape.
 pub fn print_fault(out: &mut String, layer: u16, number: u16, at: usize) -> Result<(), AllocError>
     ensures { OnOk result (Adds (fault_line layer number at) out.old out.new) }
 {

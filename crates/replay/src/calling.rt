@@ -54,6 +54,7 @@ fn pass<L: Length, O: ScanOrder<L>>(
     book.pass(lengths, order, ticket).map(Answer::Passed)
 }
 
+// Not one function with `abandon`, which would be given the book's call and the answer.
 fn finish<L: Length>(
     book: &mut Book,
     lengths: &[L],

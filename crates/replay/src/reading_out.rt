@@ -7,7 +7,7 @@ use book::Book;
 use book::refusal::Refusal;
 use routing::Length;
 
-// Reads the charge and the arriving trunk of each exchange that has a line.
+// Reads the charge and the arriving trunk of each exchange that has a line: two readings of the book, as the rules have them.
 fn read_lines<L: Length>(book: &Book, lengths: &[L], lines: &mut [Line<L>])
     requires { length lines.old ≤ 256 }
     ensures { Filled L.Length.kind (length lines.old) (state_of book.now lengths.now) lines.old lines.new }

@@ -11,6 +11,7 @@ use super::records::{Placed, Record, Switch};
 use super::shapes::{Shape, size_of};
 use routing::Length;
 
+// A tape and a place in it, not a cursor: each fault is told with the place where its record began.
 // Reads the record at `at`: first its map, then that its bytes are there, then its state.
 pub fn read_record<'a, L: Length>(tape: &'a [u8], at: usize) -> Result<Placed<'a>, RecordFault>
     ensures reads { read_as result ≡ record_at L.WIDTH tape.now at }

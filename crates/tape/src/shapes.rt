@@ -38,6 +38,7 @@ impl TryFrom<u8> for Shape {
 }
 
 impl Shape {
+    // By a method: `u8::from` would not say what the number is.
     pub(crate) fn map(self) -> u8
         ensures { result ≡ map_of self }
     {
