@@ -72,8 +72,8 @@ impl Book {
         Ok(self.progress())
     }
 
-    // Not one function with `abandon`, which would be given the check, the phase and the answer.
     // Takes the ticket of a run that is over; the run can be read until the tariff changes or another begins.
+    // Not one function with `abandon`, which would be given the check, the phase and the answer.
     pub fn finish<L: Length>(
         &mut self,
         lengths: &[L],

@@ -144,7 +144,8 @@ impl<L: Plain> Trial<L> {
         }
     }
 
-    // The book writes the loop into its caller's list. The loop is a closed walk below zero that home reaches, and leaves no exchange twice.
+    // The loop is a closed walk below zero that home reaches, and leaves no exchange twice. The book writes it into its
+    // caller's list.
     fn check_loop(&self) -> Result<(), Difference> {
         let mut trunks = [0u16; MOST_EXCHANGES];
         let count = self.book.loop_trunks(&self.lengths, &mut trunks)?;

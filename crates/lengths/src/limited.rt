@@ -4,6 +4,7 @@ use routing::Length;
 
 // A kind of length with limits to what may be laid.
 pub trait Limited: Length {
+    // That a length is within the limits of its kind.
     ghost Within: { Self → Type 0 };
 
     // Whether the length may be laid: its extent is then at most 1.

@@ -46,8 +46,8 @@ impl<L> Line<L> {
     };
 }
 
-// What was read of the finished run: a line for each exchange, or a loop, whose trunks stand at the front of
-// the caller's list, as the book writes it: so many.
+// What was read of the finished run: a line for each exchange, or a loop of so many trunks, which stand at the front of
+// the caller's list.
 #[derive(Clone, Copy)]
 pub enum Read {
     Sheet,

@@ -11,8 +11,8 @@ use super::records::{Placed, Record, Switch};
 use super::shapes::{Shape, size_of};
 use routing::Length;
 
-// A tape and a place in it, not a cursor: each fault is told with the place where its record began.
 // Reads the record at `at`: first its map, then that its bytes are there, then its state.
+// A tape and a place in it, not a cursor: each fault is told with the place where its record began.
 pub fn read_record<'a, L: Length>(tape: &'a [u8], at: usize) -> Result<Placed<'a>, RecordFault>
     ensures reads { read_as result ≡ record_at L.WIDTH tape.now at }
     ensures place { IfOk result (λ p. p.at ≡ at) }
@@ -38,7 +38,7 @@ fn shape_at(tape: &[u8], at: usize) -> Result<Shape, RecordFault>
     Ok(Shape::try_from(*map)?)
 }
 
-// The tape from `at` on, if it has `count` bytes there: a record may be cut short, so what is asked is not what there is.
+// The tape from `at` on, if it has `count` bytes there; a record may be cut short.
 fn bytes_from<'a>(tape: &'a [u8], at: usize, count: usize) -> Result<&'a [u8], TapeFault>
     requires { at ≤ length tape.now }
     ensures { MatchResult result (λ bytes. (bytes.now ≡ drop at tape.now) × (count ≤ length tape.now - at)) (λ f. (f ≡ cut_short) × (length tape.now - at < count)) }

@@ -35,8 +35,8 @@ fn pass_until_over<L: Length, O: ScanOrder<L>>(
     }
 }
 
-// By a call of the book's own it would be shorter, but that would ask that the ticket is owed, and no public call asks.
 // Takes the ticket of the open run: finishes the run if it is over, else gives it up and answers none.
+// A call of the book's own that gives up would have to ask that the ticket is owed, and no public call asks anything.
 fn close<L: Length>(book: &mut Book, lengths: &[L], ticket: Ticket) -> Option<Ending>
     requires { Owed ticket book.old (length lengths.now) }
     ensures { RunsOut L.Length.kind (state_of book.old lengths.now) result (state_of book.new lengths.now) }
