@@ -98,7 +98,7 @@ impl Book {
         if into.len() < count {
             return Err(Refusal::NoRoom);
         }
-        way.write_trail(x, &mut into[..count]);
+        way.write_at_front(x, into, count);
         Ok(count)
     }
 
@@ -112,7 +112,7 @@ impl Book {
         if into.len() <= count {
             return Err(Refusal::NoRoom);
         }
-        way.write_trail(v, &mut into[..count]);
+        way.write_at_front(v, into, count);
         into[count] = t;
         Ok(count + 1)
     }

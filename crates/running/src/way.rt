@@ -1,4 +1,4 @@
-ghost use Rattle.std.specs.Prelude.{◌≡◌, ℕ, ◌<◌, length, vec_len, Option, MatchOption};
+ghost use Rattle.std.specs.Prelude.{◌≡◌, ℕ, ◌<◌, ◌≤◌, ◌++◌, length, drop, vec_len, Option, MatchOption};
 ghost use Rattle.routing.specs.Lists.{has};
 ghost use Rattle.routing.specs.Rules.{back};
 ghost use Rattle.running.specs.Table.{seen_all};
@@ -76,5 +76,13 @@ impl Way<'_> {
                 at = before;
             }
         }
+    }
+
+    // Writes the `count` trunks that lead back from `x` to the front of the list, in the order of travel.
+    pub fn write_at_front(self, x: u16, into: &mut [u16], count: usize)
+        requires { (x < self.net.n) × (count ≤ length into.old) }
+        ensures { (stop : Option ℕ) → count ≡ length (trail self.entry.net.n self.entry.net.trunks.now (seen_all self.entry.table.now) stop x) → into.new ≡ trail self.entry.net.n self.entry.net.trunks.now (seen_all self.entry.table.now) stop x ++ drop count into.old }
+    {
+        self.write_trail(x, &mut into[..count]);
     }
 }

@@ -1,5 +1,4 @@
-use Rattle.std.proofs.Common.{◌++◌, length, drop, Some, ap, ◌∙◌, arith}
-use Rattle.std.proofs.lemmas.List.{length-take-le}
+use Rattle.std.proofs.Common.{◌++◌, length, drop, Some, ap, ◌∙◌}
 use Rattle.std.proofs.lemmas.Result.{err_from_is_err_and}
 use Rattle.routing.specs.Rules.{trunk}
 use Rattle.book.proofs.ReadCalls.{way_back, loop_denied, loop_short, loop_written}
@@ -25,4 +24,4 @@ returns g c =
     let trails = way_back K b c.args.lengths.now c.way-way.result e.size e.trunks e.table c.in_ok-v.v c.in_ok-v.t in
     loop_written K b c.args.lengths.now c.args.into.now may.refuses c.in_ok-v.v c.in_ok-v.t may.names c.trail_length-count.result
     (c.trail_length-count.ensures ∙ ap length trails) _ c.if-into-count.false
-    (ap (λ us. us ++ drop c.trail_length-count.result c.args.into.now) (c.write_trail.ensures (Some (trunk c.way-way.result.net.trunks.now c.in_ok-v.t).to) (length-take-le c.trail_length-count.result c.args.into.now (omega arith) ∙ c.trail_length-count.ensures) ∙ trails))
+    (c.write_at_front.ensures (Some (trunk c.way-way.result.net.trunks.now c.in_ok-v.t).to) c.trail_length-count.ensures ∙ ap (λ us. us ++ drop c.trail_length-count.result c.args.into.now) trails)

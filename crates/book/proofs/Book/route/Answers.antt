@@ -1,5 +1,4 @@
 use Rattle.std.proofs.Common.{◌<◌, ◌++◌, length, drop, None, vec_len, ap, ◌∙◌, arith}
-use Rattle.std.proofs.lemmas.List.{length-take-le}
 use Rattle.std.proofs.lemmas.Result.{err_from_is_err_and}
 use Rattle.running.proofs.Tables.{read_seen}
 use Rattle.book.proofs.ReadCalls.{runs, below, way_trail, route_denied, route_unreached, route_short, route_written}
@@ -38,4 +37,4 @@ returns g c =
     let trails = way_trail K b c.args.lengths.now c.way-way.result e.size e.trunks e.table None c.args.x in
     route_written K b c.args.lengths.now c.args.x c.args.into.now ok (ap (λ z. z.reached) (read_seen b.work.table c.args.x c.index.result.now inside c.index.ensures) ∙ c.if-not-index.false) c.trail_length-count.result
     (c.trail_length-count.ensures ∙ ap length trails) _ c.if-into-count.false
-    (ap (λ us. us ++ drop c.trail_length-count.result c.args.into.now) (c.write_trail.ensures None (length-take-le c.trail_length-count.result c.args.into.now c.if-into-count.false ∙ c.trail_length-count.ensures) ∙ trails))
+    (c.write_at_front.ensures None c.trail_length-count.ensures ∙ ap (λ us. us ++ drop c.trail_length-count.result c.args.into.now) trails)
