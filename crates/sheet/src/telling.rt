@@ -54,7 +54,7 @@ pub(crate) fn print_fault_at(
 ) -> Result<(), AllocError>
     ensures { OnOk result (Adds (fault_line (layer_of fault) (number_of fault) at) out.old out.new) }
 {
-    print_fault(out, fault.layer() as u16, fault.number(), at)
+    print_fault(out, fault.layer().number(), fault.number(), at)
 }
 
 // Takes each record of the tape, on a new book of `n` exchanges, and prints the blocks of homes; a fault ends it.

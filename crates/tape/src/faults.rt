@@ -62,6 +62,15 @@ pub enum Layer {
     Book = 3,
 }
 
+impl Layer {
+    // By a method: `u16::from` would not say what the number is.
+    pub fn number(self) -> u16
+        ensures { result ≡ layer_number self }
+    {
+        self as u16
+    }
+}
+
 impl RecordFault {
     pub fn layer(self) -> Layer
         ensures { layer_number result ≡ layer_of self }
