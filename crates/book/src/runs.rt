@@ -1,15 +1,18 @@
-ghost use Rattle.std.specs.Prelude.{◌≡◌, true, false, length, is_ok, IfOk, IfErr};
+ghost use Rattle.std.specs.Prelude.{◌≡◌, ◌≤◌, true, false, length, vec_capacity, is_ok, IfOk, IfErr};
 ghost use Rattle.routing.specs.Calls.{abandon, begin, do_pass, done, finish, said, shown};
 ghost use Rattle.routing.specs.Does.{Serves};
 ghost use Rattle.routing.specs.Orders.{Meaning};
 ghost use Rattle.book.specs.Answers.{answer_back, answer_by, shows, shows_end};
+ghost use Rattle.book.specs.Held.{has_run};
 ghost use Rattle.book.specs.Orders.{ByOrder};
 ghost use Rattle.book.specs.State.{Owed, state_of, stood};
+ghost use Rattle.running.specs.Network.{Ends, Leads, Parted};
 
 use super::outcome::{Ending, Progress};
 use super::refusal::{Refusal, Refused};
 use super::{Book, Phase, Ticket};
-use routing::{Length, Verdict};
+use routing::{Length, Trunk, Verdict};
+use running::index::Index;
 use running::passing::ScanOrder;
 
 impl Phase {
@@ -25,6 +28,20 @@ impl Phase {
     }
 }
 
+// The index of the open trunks. That of a run that stands is the same still: a change of a trunk would have cleared the run.
+fn renew(index: &mut Index, phase: Phase, trunks: &[Trunk], n: usize)
+    requires room { (n ≤ vec_capacity index.old.starts) × (length trunks.now ≤ vec_capacity index.old.listed) }
+    requires ends { (length trunks.now ≤ 4096) × (Ends n trunks.now) }
+    requires stands { has_run phase ≡ true → (Parted n index.old.starts.items index.old.listed.items) × (Leads n trunks.now index.old.starts.items index.old.listed.items) }
+    ensures cap { (vec_capacity index.new.starts ≡ vec_capacity index.old.starts) × (vec_capacity index.new.listed ≡ vec_capacity index.old.listed) }
+    ensures parted { Parted n index.new.starts.items index.new.listed.items }
+    ensures leads { Leads n trunks.now index.new.starts.items index.new.listed.items }
+{
+    if let Phase::Idle = phase {
+        index.build(trunks, n);
+    }
+}
+
 impl Book {
     // Opens a run from `home`; whoever holds the ticket owes it back.
     pub fn begin<L: Length>(&mut self, lengths: &mut [L], home: u16) -> Result<Ticket, Refusal>
@@ -34,7 +51,7 @@ impl Book {
         ensures refused { is_ok result ≡ false → self.new ≡ self.old }
     {
         self.may_begin(lengths, home)?;
-        self.index.build(&self.trunks, self.n);
+        renew(&mut self.index, self.phase, &self.trunks, self.n);
         self.work.begin(lengths, self.n, home);
         self.phase = Phase::Running(home);
         Ok(Ticket {

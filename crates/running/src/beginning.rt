@@ -19,6 +19,18 @@ pub(crate) fn refill<T: Copy>(items: &mut Vec<T>, x: T, n: usize)
     }
 }
 
+// Makes `items` hold `n` numbers. Those that it held stay, so that a list of about that size costs next to nothing.
+pub(crate) fn resize(items: &mut Vec<u16>, n: usize)
+    requires { n ≤ vec_capacity items.old }
+    ensures len { vec_len items.new ≡ n }
+    ensures cap { vec_capacity items.new ≡ vec_capacity items.old }
+{
+    items.truncate(n);
+    for _ in items.len()..n {
+        items.push_reserved(0);
+    }
+}
+
 impl Work {
     // A run from `home` begins.
     pub fn begin<L: Length>(&mut self, lengths: &mut [L], n: usize, home: u16)

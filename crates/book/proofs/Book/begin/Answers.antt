@@ -24,18 +24,18 @@ pub invariant_of-self : goal.invariant_of-self
 invariant_of-self g c =
     let b = c.args.self.now in
     let home = c.args.home in
-    let ix = c.build.new.self in
+    let ix = c.renew.new.index in
     let w = c.begin.new.self in
     let ok = may_do g.L.Length.kind b c.args.lengths.now (begin home) (step (began home)) c.in_ok-may_begin.ensures refl in
     let sound = c.begin.ensures.sound (vec_len b.trunks) in
     let room = c.begin.ensures.room in
-    let caps = c.build.ensures.cap in
+    let caps = c.renew.ensures.cap in
     record {
       roomy = (b.roomy.0, omega (arith, caps.0, b.roomy.1), omega (arith, caps.1, b.roomy.2), omega (arith, room.0, b.roomy.3));
       spare = (omega (arith, room.1, b.spare.0), b.spare.1);
       laid = b.laid;
       seated = λ _. (ok.0.0, ok.0.1, sound.entries);
-      indexed = λ _. (c.build.ensures.parted, rw c.deref.ensures.value at c.build.ensures.leads);
+      indexed = λ _. (c.renew.ensures.parted, rw c.deref.ensures.value at c.renew.ensures.leads);
       rests = rests_from b.n (vec_len b.trunks) w sound;
       tells = tells_from b.n w (λ _. c.begin.ensures.marked);
       names = names_calm b.n b.trunks w (ap (λ (r : Run g.row.L.Denot). is_loop r.verdict) c.begin.ensures.does);
