@@ -2,7 +2,8 @@
 use Rattle.std.proofs.Common.{◌≡◌, ℕ, zero, suc, ◌+◌, ◌-◌, ◌*◌, ◌/◌, ◌%◌, ◌^◌, ◌<◌, ◌≤◌, List, [], ◌∷◌, ◌++◌, length, get_or, take, drop, sym, refl, ap, ◌∙◌, pow-suc, add-one, arith, lit<}
 use native.Mathlib.Nat.{mod-one}
 use lib.Arith.{mod-mul}
-use Rattle.std.proofs.lemmas.List.{take_all, take_more, length-drop, length-take-le}
+use Rattle.std.proofs.lemmas.Nat.{mod_below}
+use Rattle.std.proofs.lemmas.List.{take_all, take_more, length_push, length-drop, length-take-le}
 use Rattle.std.proofs.lemmas.List.Sums.{fold_push, fold_more}
 use Rattle.tape.specs.Fields.{number, bytes_of, Bytes, Pair}
 
@@ -16,6 +17,11 @@ pub pow_256_pos : (k : ℕ) → 0 < 256 ^ k
 pow_256_pos zero = lit< tt
 pow_256_pos (suc k) = omega (arith, pow-suc 256 k, pow_256_pos k)
 
+-- as many bytes as asked for
+pub length_bytes_of : (k x : ℕ) → length (bytes_of k x) ≡ k
+length_bytes_of zero x = refl
+length_bytes_of (suc k) x = omega (arith, length_push (bytes_of k (x / 256)) (x % 256), length_bytes_of k (x / 256))
+
 -- k bytes have the number below 256 ^ k
 pub number_bytes_of : (k x : ℕ) → number (bytes_of k x) ≡ x % 256 ^ k
 number_bytes_of zero x = sym (mod-one x)
@@ -23,6 +29,16 @@ number_bytes_of (suc k) x =
     number_push (bytes_of k (x / 256)) (x % 256)
     ∙ ap (λ n. n * 256 + x % 256) (number_bytes_of k (x / 256))
     ∙ sym (ap (λ n. x % n) (pow-suc 256 k) ∙ mod-mul x {m = 256 ^ k} {c = 256} (pow_256_pos k) (lit< tt))
+
+pub bytes_push : (bs : List ℕ) (b : ℕ) → Bytes bs → b < 256 → Bytes (bs ++ (b ∷ []))
+bytes_push [] b h small zero = small
+bytes_push [] b h small (suc i) = lit< tt
+bytes_push (x ∷ bs) b h small zero = h 0
+bytes_push (x ∷ bs) b h small (suc i) = bytes_push bs b (λ i. h (suc i)) small i
+
+pub bytes_bytes_of : (k x : ℕ) → Bytes (bytes_of k x)
+bytes_bytes_of zero x = λ i. lit< tt
+bytes_bytes_of (suc k) x = bytes_push (bytes_of k (x / 256)) (x % 256) (bytes_bytes_of k (x / 256)) (mod_below x 256 (lit< tt))
 
 -- the front of some bytes
 front_of_number : (bs : List ℕ) → Bytes bs → (i : ℕ) → i ≤ length bs → bytes_of i (number (take i bs)) ≡ take i bs

@@ -6,12 +6,20 @@ use Rattle.tape.specs.declared.faults.ContentFault.TheVariants.{IllegalMap, BadS
 use Rattle.tape.specs.declared.faults.TapeFault.TheVariants.{CutShort}
 use Rattle.tape.specs.declared.records.Switch.{Switch}
 use Rattle.tape.specs.declared.records.Switch.TheVariants.{Bar as to_bar, Unbar as to_unbar}
+use Rattle.tape.specs.declared.shapes.Shape.{Shape}
+use Rattle.tape.specs.declared.shapes.Shape.TheVariants.{Lay, Reprice, Bar, Home}
 use Rattle.tape.specs.Format.{Item, Found, is_legal, size_of, item_in, legal_state, record_in}
-use Rattle.tape.specs.Reading.{state_of}
+use Rattle.tape.specs.Reading.{map_of, state_of}
 
 pub state_legal : (s : Switch) → ltb (state_of s) 2 ≡ true
 state_legal to_bar = refl
 state_legal to_unbar = refl
+
+pub shape_legal : (s : Shape) → is_legal (map_of s) ≡ true
+shape_legal Lay = refl
+shape_legal Reprice = refl
+shape_legal Bar = refl
+shape_legal Home = refl
 
 pub found_same : (i j : Item) (m n : ℕ) → i ≡ j → m ≡ n → ◌≡◌ {A = Result Found RecordFault} (Ok (record { item = i; end = m })) (Ok (record { item = j; end = n }))
 found_same i j m n p q = rw (p, q) refl
